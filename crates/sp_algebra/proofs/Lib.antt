@@ -1,0 +1,6 @@
+pub mod Whole
+pub mod Coefficients
+pub mod Canonical
+pub mod Laws
+pub mod Sums
+pub mod Positive

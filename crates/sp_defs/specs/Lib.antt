@@ -1,0 +1,10 @@
+pub mod Partition
+pub mod Node
+pub mod Laurent
+pub mod Power
+pub mod Ladder
+pub mod Row
+pub mod Statements
+pub mod Signature
+pub mod Abacus
+pub mod Text

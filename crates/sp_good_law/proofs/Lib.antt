@@ -1,0 +1,4 @@
+pub mod RowRegular
+pub mod GoodNodes
+pub mod CogoodNodes
+pub mod MoveLaw

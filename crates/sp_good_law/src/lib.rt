@@ -1,0 +1,2 @@
+//! Good and cogood moves keep e-regularity.
+#![tactic(auto)]

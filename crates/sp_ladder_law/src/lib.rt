@@ -1,0 +1,2 @@
+//! The ladder law and the contents of ladder vectors.
+#![tactic(auto)]

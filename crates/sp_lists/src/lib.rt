@@ -1,0 +1,2 @@
+//! Facts on lists that the standard library lacks.
+#![tactic(auto)]

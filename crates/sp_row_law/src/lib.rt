@@ -1,0 +1,2 @@
+//! The law of rows and shares, and their contents.
+#![tactic(auto)]

@@ -1,0 +1,6 @@
+pub mod Order
+pub mod Diagram
+pub mod Listing
+pub mod Moves
+pub mod Residues
+pub mod Regular

@@ -1,0 +1,2 @@
+//! Facts on partitions, diagrams, nodes, moves and the list of all partitions.
+#![tactic(auto)]

@@ -1,0 +1,3 @@
+pub mod Triangle
+pub mod Shares
+pub mod NextShare

@@ -1,0 +1,2 @@
+//! Rows and shares over any unitriangular family of vectors.
+#![tactic(auto)]
