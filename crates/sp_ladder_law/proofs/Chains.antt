@@ -1,14 +1,13 @@
 -- Sums over chains: the last step is a divided power, what is reached, and that coefficients are positive.
-use Rattle.std.proofs.Common.{◌≡◌, ◌≢◌, ℕ, true, false, cond, List, [], ◌∷◌, ◌++◌, map, flat_map, refl, sym, ◌∙◌, ap, subst, arith, ℤ, pos, ◌+ℤ◌, ◌<ℤ◌, Less, Equal, Greater, int_cmp, int_eq, ◌⊎◌, inl, inr}
-use Rattle.std.proofs.lemmas.Int.{ints}
+use Rattle.std.proofs.Common.{◌≡◌, ℕ, true, List, [], ◌∷◌, map, refl, sym, ◌∙◌, subst}
 use Rattle.std.specs.List.{AllByRecursion}
 use Rattle.sp_defs.specs.Partition.{IsPartition}
-use Rattle.sp_defs.specs.Laurent.{Laurent, put, placed, add_term, collect, products, plus, times, power, IsLaurent, sum_over}
+use Rattle.sp_defs.specs.Laurent.{times, power, IsLaurent, sum_over}
 use Rattle.sp_defs.specs.Power.{is_move, exponent, sources, divided_power}
 use Rattle.sp_defs.specs.Ladder.{Step, chains_to, chain_exponent, chain_sum}
 use Rattle.sp_algebra.proofs.Sums.{IsLaurent-sum_over, sum_over-alike, sum_over-flat, sum_over-map, times-sum_over, power-times}
 use Rattle.sp_algebra.proofs.Positive.{AllPositive, positive_sum}
-use Rattle.sp_lists.proofs.Elements.{all_append, all_map, all_flat}
+use Rattle.sp_lists.proofs.Elements.{all_map, all_flat}
 
 -- each chain begins at its last partition
 Starts : List ℕ → List (List ℕ) → Type 0

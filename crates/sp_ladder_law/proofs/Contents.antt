@@ -1,13 +1,12 @@
 -- Contents: each step adds nodes of its residue, so what is reached by the same steps has the same content.
-use Rattle.std.proofs.Common.{◌≡◌, ◌≢◌, ℕ, suc, ◌+◌, true, false, cond, nat_eq, List, [], ◌∷◌, reverse, length, refl, sym, ◌∙◌, ap, ap₂, arith, sum_by, count_by, eqb-true}
+use Rattle.std.proofs.Common.{◌≡◌, ℕ, suc, ◌+◌, true, false, cond, nat_eq, List, [], ◌∷◌, reverse, length, refl, sym, ◌∙◌, ap, ap₂, arith, sum_by, count_by, eqb-true}
 use Rattle.std.specs.List.{AllByRecursion, list_all}
 use Rattle.std.proofs.lemmas.List.Sums.{sum_by-cons}
-use Rattle.sp_defs.specs.Partition.{degree}
 use Rattle.sp_defs.specs.Node.{Node, nodes, nodes_from, residue, content, in_diagram}
 use Rattle.sp_defs.specs.Laurent.{one}
 use Rattle.sp_defs.specs.Power.{is_move, added}
 use Rattle.sp_defs.specs.Ladder.{Step, steps, ladder_vector}
-use Rattle.sp_defs.specs.Statements.{IsLabel, SameContent, LadderContentLaw}
+use Rattle.sp_defs.specs.Statements.{LadderContentLaw}
 use Rattle.sp_lists.proofs.Elements.{and_split, all_tests}
 use Rattle.sp_shapes.proofs.Moves.{move_facts, count_added}
 use Rattle.sp_ladder_law.proofs.Chains.{Reached}
