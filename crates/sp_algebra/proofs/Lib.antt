@@ -4,3 +4,4 @@ pub mod Canonical
 pub mod Laws
 pub mod Sums
 pub mod Positive
+pub mod Sizes
