@@ -5,3 +5,4 @@ pub mod Laws
 pub mod Sums
 pub mod Positive
 pub mod Sizes
+pub mod Places

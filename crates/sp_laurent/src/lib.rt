@@ -45,11 +45,12 @@ impl Laurent {
         requires within { unsigned_abs power ≤ power_limit }
         ensures { IfOk result (λ p. p ≡ monomial power coefficient) }
     {
-        let mut terms = Vec::new(alloc);
-        if coefficient != 0 {
-            terms.push((power, coefficient))?;
+        if coefficient == 0 {
+            return Ok(Laurent::zero(alloc));
         }
-        Ok(Laurent { terms })
+        Ok(Laurent {
+            terms: vec![in alloc; (power, coefficient)]?,
+        })
     }
 
     /// The terms, strictly ascending by power.
@@ -75,10 +76,6 @@ impl Laurent {
         ensures value { result ≡ size self.now }
         ensures held { IsHeld self.now }
     {
-        let mut sum = 0;
-        for term in &self.terms {
-            sum += term.1.unsigned_abs();
-        }
-        sum
+        self.terms.iter().map(|term| term.1.unsigned_abs()).sum()
     }
 }
