@@ -8,7 +8,7 @@ use Rattle.sp_defs.specs.Row.{Factors, combination, before, factors, factor_of, 
 use Rattle.sp_defs.specs.Statements.{IsLabel, SameContent, RowContentLaw}
 use Rattle.sp_algebra.proofs.Laws.{times_nought, nought_times, nought_plus}
 use Rattle.sp_algebra.proofs.Sums.{nonzero_term}
-use Rattle.sp_shapes.proofs.Order.{all_kept}
+use Rattle.sp_shapes.proofs.Before.{all_kept}
 use Rattle.sp_shapes.proofs.Listing.{all_regulars}
 use Rattle.sp_ladder_law.proofs.Contents.{ladder_content}
 

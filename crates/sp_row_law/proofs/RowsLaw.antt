@@ -18,8 +18,10 @@ use Rattle.sp_lists.proofs.Elements.{all_append}
 use Rattle.sp_algebra.proofs.Laws.{plus_nought, nought_plus, nought_times, bar_invariant-nought}
 use Rattle.sp_triangle.proofs.Triangle.{Triangle, combination-append, IsLaurent-combination, keys-factors}
 use Rattle.sp_triangle.proofs.Triangle.{invariant-factors, row_at_mu, row_later, row_positive, same_factors}
-use Rattle.sp_shapes.proofs.Order.{later_than, less_trans, equal_self, same_lists, before_keep, before_self, all_before}
-use Rattle.sp_shapes.proofs.Order.{all_kept, all_mono, before_before}
+use Rattle.sp_shapes.proofs.Order.{later_than, less_trans, equal_self, same_lists}
+use Rattle.sp_shapes.proofs.Before.{before_keep, before_self, all_before}
+use Rattle.sp_shapes.proofs.Order.{all_mono}
+use Rattle.sp_shapes.proofs.Before.{all_kept, before_before}
 use Rattle.sp_triangle.proofs.Shares.{rows, keys-shares, invariant-shares, from_keys, shares_sum, only_shares}
 use Rattle.sp_shapes.proofs.Listing.{Occurs, all_regulars, each_regular, regulars_ascend}
 use Rattle.sp_ladder_law.proofs.Chains.{IsLaurent-chain_sum}

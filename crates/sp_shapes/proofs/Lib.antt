@@ -4,3 +4,5 @@ pub mod Listing
 pub mod Moves
 pub mod Residues
 pub mod Regular
+pub mod Before
+pub mod Corners

@@ -10,7 +10,7 @@ use Rattle.sp_defs.specs.Power.{Vector}
 use Rattle.sp_defs.specs.Row.{Factors, combination, before, factors, factor_of, shares_over}
 use Rattle.sp_algebra.proofs.Laws.{coefficient-plus, coefficient-negate, IsLaurent-bar_invariant, times_one}
 use Rattle.sp_algebra.proofs.Laws.{lift_unique}
-use Rattle.sp_shapes.proofs.Order.{before_keep}
+use Rattle.sp_shapes.proofs.Before.{before_keep}
 use Rattle.sp_triangle.proofs.Triangle.{drop_term, combination-cons, Triangle, row_positive}
 use Rattle.sp_triangle.proofs.Shares.{rows, keys-shares, from_keys, invariant-shares, shares_sum, rows_triangle}
 

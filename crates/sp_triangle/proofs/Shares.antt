@@ -14,7 +14,8 @@ use Rattle.sp_algebra.proofs.Laws.{plus_negate, times_assoc, times_plus, plus_ti
 use Rattle.sp_algebra.proofs.Laws.{bar_invariant-times, bar_invariant-plus, bar_invariant-negate, bar_invariant-nought}
 use Rattle.sp_algebra.proofs.Laws.{bar_invariant-lift}
 use Rattle.sp_algebra.proofs.Coefficients.{same_laurent}
-use Rattle.sp_shapes.proofs.Order.{before_keep, before_self, all_before, all_kept, all_mono, less_trans}
+use Rattle.sp_shapes.proofs.Order.{all_mono, less_trans}
+use Rattle.sp_shapes.proofs.Before.{before_keep, before_self, all_before, all_kept}
 use Rattle.sp_triangle.proofs.Triangle.{combination-cons, IsLaurent-combination, Triangle, row_later, row_at_mu}
 use Rattle.sp_triangle.proofs.Triangle.{same_factors}
 
