@@ -1,6 +1,6 @@
 -- Rows over any family of vectors that is a triangle with ones, by algebra alone: the row of mu has 1 at mu, 0 after it
 -- and positive powers alone before it, and bar-invariant factors are told apart by what they give up to the power 0.
-use Rattle.sp_algebra.proofs.Sums.{IsLaurent-sum_over, sum_over-append, sum_over-alike}
+use Rattle.sp_algebra.proofs.Sums.{IsLaurent-sum_over, sum_over-append}
 use Rattle.std.proofs.Common.{◌≡◌, ℕ, List, [], ◌∷◌, ◌++◌, map, refl, sym, ◌∙◌, ap, ap₂, subst, ℤ, pos, ◌+ℤ◌, ◌≤ℤ◌}
 use Rattle.std.proofs.Common.{arith, Less}
 use Rattle.std.proofs.lemmas.Int.{ints}
@@ -10,7 +10,7 @@ use Rattle.sp_defs.specs.Laurent.{Laurent, coefficient, collect, plus, negate, t
 use Rattle.sp_defs.specs.Laurent.{IsBarInvariant, IsPositive, sum_over}
 use Rattle.sp_defs.specs.Power.{Vector}
 use Rattle.sp_defs.specs.Row.{Factors, combination, factors}
-use Rattle.sp_algebra.proofs.Laws.{coefficient-plus, IsLaurent-plus, IsLaurent-bar_invariant, plus_comm, plus_assoc}
+use Rattle.sp_algebra.proofs.Laws.{coefficient-plus, IsLaurent-bar_invariant, plus_comm}
 use Rattle.sp_algebra.proofs.Laws.{plus_nought, nought_plus, times_one, times_nought, bar_invariant-negate}
 use Rattle.sp_algebra.proofs.Laws.{bar_invariant-one, bar_invariant-lift, lift_rest, same_bar_invariant}
 
