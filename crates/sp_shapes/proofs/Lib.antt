@@ -5,3 +5,5 @@ pub mod Moves
 pub mod Residues
 pub mod Regular
 pub mod Degrees
+pub mod Before
+pub mod Corners
