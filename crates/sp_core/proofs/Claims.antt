@@ -1,8 +1,6 @@
 -- Rows are claimed in order, so none twice.
-use Rattle.std.proofs.Common.{◌≡◌, ◌≢◌, ℕ, zero, suc, ◌+◌, ◌<◌, ◌≤◌}
-use Rattle.std.proofs.Common.{List, []}
-use Rattle.std.proofs.Common.{◌∷◌, length, slice_get, slice_set, slice_index, sym, ◌∙◌}
-use Rattle.std.proofs.Common.{inl, inr, arith, length-set}
+use Rattle.std.proofs.Common.{◌≡◌, ◌≢◌, ℕ, zero, suc, ◌+◌, ◌<◌, ◌≤◌, List, [], ◌∷◌, length, slice_get, slice_set}
+use Rattle.std.proofs.Common.{slice_index, sym, ◌∙◌, inl, inr, arith, length-set}
 use Rattle.std.proofs.lemmas.Bool.{cases_lt}
 use Rattle.std.proofs.lemmas.Option.{slice_get_within}
 use Rattle.std.specs.declared.option.Option.TheVariants.{Some}
@@ -13,11 +11,9 @@ use Rattle.sp_core.specs.declared.machine.WorkerState.TheVariants.{Busy}
 use Rattle.sp_core.specs.declared.machine.Event.{Event}
 use Rattle.sp_core.specs.declared.machine.Answer.{Answer}
 use Rattle.sp_core.specs.Machine.{World, world, opening, first_open}
-use Rattle.sp_core.specs.Law.{Runs, claims, claimed_by}
-use Rattle.sp_core.specs.Law.{ClaimsRowsInOrder}
+use Rattle.sp_core.specs.Law.{Runs, claims, claimed_by, ClaimsRowsInOrder}
 use Rattle.sp_core.proofs.Sets.{set_other, set_apart, after_set}
-use Rattle.sp_core.proofs.Keeps.{Kept, IsEnd, first_open_is}
-use Rattle.sp_core.proofs.Keeps.{first_open_least}
+use Rattle.sp_core.proofs.Keeps.{Kept, IsEnd, first_open_is, first_open_least}
 use Rattle.sp_core.proofs.Steps.{Did, claimed, saw, stayed, marked, ended, step_did}
 use Rattle.sp_core.proofs.Runs.{did_keeps, opening_kept, replicated_at, length-replicate}
 

@@ -1,8 +1,6 @@
 -- Each change lowers the measure, so there are few.
-use Rattle.std.proofs.Common.{◌≡◌, ℕ, ◌+◌, ◌*◌, ◌<◌, ◌≤◌, Bool, false, cond}
-use Rattle.std.proofs.Common.{List, []}
-use Rattle.std.proofs.Common.{◌∷◌, length, get_or, slice_get, slice_set, refl, sym, ◌∙◌}
-use Rattle.std.proofs.Common.{arith, length-set}
+use Rattle.std.proofs.Common.{◌≡◌, ℕ, ◌+◌, ◌*◌, ◌<◌, ◌≤◌, Bool, false, cond, List, [], ◌∷◌, length, get_or, slice_get}
+use Rattle.std.proofs.Common.{slice_set, refl, sym, ◌∙◌, arith, length-set}
 use Rattle.std.specs.List.{sum_by, count_by}
 use Rattle.std.proofs.lemmas.List.Sums.{sum_by-set}
 use Rattle.std.proofs.lemmas.List.Folds.{sum_by-replicate}
@@ -15,8 +13,7 @@ use Rattle.sp_core.specs.declared.machine.Event.{Event}
 use Rattle.sp_core.specs.declared.machine.Answer.{Answer}
 use Rattle.sp_core.specs.declared.machine.Answer.TheVariants.{Claimed, Seen, Waits, Freed, Gone}
 use Rattle.sp_core.specs.Machine.{World, opening, is_open}
-use Rattle.sp_core.specs.Law.{Runs}
-use Rattle.sp_core.specs.Law.{asks_left, has_not_ended, measure, is_change, EachChangeFalls, OnlyWaitsStay}
+use Rattle.sp_core.specs.Law.{Runs, asks_left, has_not_ended, measure, is_change, EachChangeFalls, OnlyWaitsStay}
 use Rattle.sp_core.specs.Law.{changes, FewChanges}
 use Rattle.sp_core.proofs.Keeps.{Kept, IsEnd, first_open_is}
 use Rattle.sp_core.proofs.Steps.{Did, claimed, saw, stayed, marked, ended, step_did}

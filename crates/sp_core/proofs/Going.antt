@@ -1,9 +1,6 @@
 -- Whom `can_go_on` names can move, and where all have ended each row is settled.
-use Rattle.std.proofs.Common.{◌≡◌, ◌≢◌, ℕ, ◌<◌, ◌⊎◌}
-use Rattle.std.proofs.Common.{List}
-use Rattle.std.proofs.Common.{length, get_or, slice_get, slice_set, refl, sym, ◌∙◌, ap}
-use Rattle.std.proofs.Common.{ap₂}
-use Rattle.std.proofs.Common.{inl, inr}
+use Rattle.std.proofs.Common.{◌≡◌, ◌≢◌, ℕ, ◌<◌, ◌⊎◌, List, length, get_or, slice_get, slice_set, refl, sym, ◌∙◌, ap}
+use Rattle.std.proofs.Common.{ap₂, inl, inr}
 use Rattle.std.proofs.lemmas.Option.{same_Some, slice_get_within, slice_get-get_or}
 use Rattle.std.specs.declared.option.Option.{Option}
 use Rattle.std.specs.declared.option.Option.TheVariants.{None, Some}
@@ -14,9 +11,8 @@ use Rattle.sp_core.specs.declared.machine.WorkerState.TheVariants.{Free, Busy, E
 use Rattle.sp_core.specs.declared.machine.Event.TheVariants.{Claim, Publish, End}
 use Rattle.sp_core.specs.declared.machine.Answer.TheVariants.{Claimed, Freed, Gone}
 use Rattle.sp_core.specs.Machine.{World, world, claim_of, end_of, first_open}
-use Rattle.sp_core.specs.Law.{IsLeastBusy, IsLeastFree, AllEnded}
-use Rattle.sp_core.specs.Law.{first_busy, first_free, CanMove, NamedCanMove, NamesUnlessEnded}
-use Rattle.sp_core.specs.Law.{EndsSettled}
+use Rattle.sp_core.specs.Law.{IsLeastBusy, IsLeastFree, AllEnded, first_busy, first_free, CanMove, NamedCanMove}
+use Rattle.sp_core.specs.Law.{NamesUnlessEnded, EndsSettled}
 use Rattle.sp_core.proofs.Workers.{someone_or_ended, named_or_ended}
 use Rattle.sp_core.proofs.Sets.{set_same}
 use Rattle.sp_core.proofs.Keeps.{Kept}

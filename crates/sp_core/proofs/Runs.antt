@@ -1,8 +1,5 @@
 -- What holds at the opening and after each event holds throughout.
-use Rattle.std.proofs.Common.{◌≡◌, ℕ, zero, suc, ◌<◌}
-use Rattle.std.proofs.Common.{List, []}
-use Rattle.std.proofs.Common.{◌∷◌, length, replicate, slice_get, refl, ap}
-use Rattle.std.proofs.Common.{arith}
+use Rattle.std.proofs.Common.{◌≡◌, ℕ, zero, suc, ◌<◌, List, [], ◌∷◌, length, replicate, slice_get, refl, ap, arith}
 use Rattle.std.specs.declared.option.Option.TheVariants.{Some}
 use Rattle.sp_core.specs.declared.machine.RowState.TheVariants.{Open, Taken}
 use Rattle.sp_core.specs.declared.machine.WorkerState.TheVariants.{Free, Busy, Ended}
@@ -10,8 +7,7 @@ use Rattle.sp_core.specs.declared.machine.Event.{Event}
 use Rattle.sp_core.specs.declared.machine.Answer.{Answer}
 use Rattle.sp_core.specs.Machine.{World, opening}
 use Rattle.sp_core.specs.Law.{Runs, HoldsThroughout, IsShared}
-use Rattle.sp_core.proofs.Keeps.{Kept, claim_keeps, mark_keeps, ask_keeps, end_keeps}
-use Rattle.sp_core.proofs.Keeps.{no_open}
+use Rattle.sp_core.proofs.Keeps.{Kept, claim_keeps, mark_keeps, ask_keeps, end_keeps, no_open}
 use Rattle.sp_core.proofs.Steps.{Did, claimed, saw, stayed, marked, ended, step_did}
 
 pub did_keeps : (s : World) (e : Event) (t : World) (a : Answer) → Did s e t a → Kept s → Kept t

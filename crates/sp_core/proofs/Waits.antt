@@ -1,8 +1,6 @@
 -- Who waits, waits for an earlier row, so the busy worker with the least row never waits.
-use Rattle.std.proofs.Common.{◌≡◌, ◌≢◌, ℕ, ◌<◌, ◌≤◌}
-use Rattle.std.proofs.Common.{List}
-use Rattle.std.proofs.Common.{length, get_or, slice_get, refl, sym, ◌∙◌, ap}
-use Rattle.std.proofs.Common.{inl, inr, arith}
+use Rattle.std.proofs.Common.{◌≡◌, ◌≢◌, ℕ, ◌<◌, ◌≤◌, List, length, get_or, slice_get, refl, sym, ◌∙◌, ap, inl, inr}
+use Rattle.std.proofs.Common.{arith}
 use Rattle.std.proofs.lemmas.Option.{slice_get_within, slice_get-get_or}
 use Rattle.std.specs.declared.option.Option.TheVariants.{Some}
 use Rattle.sp_core.specs.declared.machine.RowState.{RowState}
@@ -13,8 +11,7 @@ use Rattle.sp_core.specs.declared.machine.Event.TheVariants.{Claim, Ask, Publish
 use Rattle.sp_core.specs.declared.machine.Answer.{Answer}
 use Rattle.sp_core.specs.declared.machine.Answer.TheVariants.{Seen, Waits, Freed, Gone}
 use Rattle.sp_core.specs.Machine.{World}
-use Rattle.sp_core.specs.Law.{IsForEarlier, WaitsAreForEarlier, IsLeastBusy}
-use Rattle.sp_core.specs.Law.{LeastNeverWaits}
+use Rattle.sp_core.specs.Law.{IsForEarlier, WaitsAreForEarlier, IsLeastBusy, LeastNeverWaits}
 use Rattle.sp_core.proofs.Keeps.{Kept}
 use Rattle.sp_core.proofs.Steps.{Did, claimed, saw, stayed, marked, ended, step_did}
 

@@ -7,8 +7,8 @@ use Rattle.std.specs.declared.option.Option.{Option}
 use Rattle.std.specs.declared.option.Option.TheVariants.{None, Some}
 use Rattle.sp_core.specs.declared.machine.WorkerState.{WorkerState}
 use Rattle.sp_core.specs.declared.machine.WorkerState.TheVariants.{Free, Busy, Ended}
-use Rattle.sp_core.specs.Law.{IsFirstLeastBusy, NoneBusy, NoneFree, IsLeastFree, AllEnded, GoesOn}
-use Rattle.sp_core.specs.Law.{first_busy, first_free}
+use Rattle.sp_core.specs.Law.{IsFirstLeastBusy, NoneBusy, NoneFree, IsLeastFree, AllEnded, GoesOn, first_busy}
+use Rattle.sp_core.specs.Law.{first_free}
 use Rattle.sp_core.specs.Search.{IsBetter}
 
 -- ---- the best of the first workers
