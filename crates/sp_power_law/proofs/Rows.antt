@@ -12,14 +12,7 @@ use Rattle.sp_lists.proofs.Counts.{count-cons, count-filter, count-alike, count-
 use Rattle.sp_shapes.proofs.Order.{all_mono}
 use Rattle.sp_shapes.proofs.Diagram.{nodes_all, in_node, node_in}
 use Rattle.sp_shapes.proofs.Regular.{index_short}
-use Rattle.sp_shapes.proofs.Residues.{right_differs}
-
--- Can row r, counted from 1, gain a node of residue i, or lose one?
-abbrev pub addable_at : ℕ → ℕ → List ℕ → ℕ → Bool
-addable_at e i parts r = is_addable parts (r, part parts r + 1) && nat_eq (residue e (r, part parts r + 1)) i
-
-abbrev pub removable_at : ℕ → ℕ → List ℕ → ℕ → Bool
-removable_at e i parts r = is_removable parts (r, part parts r) && nat_eq (residue e (r, part parts r)) i
+use Rattle.sp_power_law.proofs.Gains.{addable_at, removable_at, addable_facts, gain_near, not_true}
 
 -- ---- the marks of a row
 
@@ -36,12 +29,6 @@ filter_two t false false x y = refl
 pub row_marks_are : (e i : ℕ) (parts : List ℕ) (r : ℕ) → row_marks e i parts r ≡ cond (removable_at e i parts r) ((Removable, (r, part parts r)) ∷ []) [] ++ cond (addable_at e i parts r) ((Addable, (r, part parts r + 1)) ∷ []) []
 row_marks_are e i parts r =
     filter_two (λ m. nat_eq (residue e m.1) i) (is_removable parts (r, part parts r)) (is_addable parts (r, part parts r + 1)) (Removable, (r, part parts r)) (Addable, (r, part parts r + 1))
-
--- a row never has both
-pub not_both : (e i : ℕ) (parts : List ℕ) (r : ℕ) → 2 ≤ e → addable_at e i parts r ≡ true → removable_at e i parts r ≡ true → ⊥
-not_both e i parts r he a b = right_differs e r (part parts r) he
-    (eqb-true (residue e (r, part parts r + 1)) i (and_split (is_addable parts (r, part parts r + 1)) (nat_eq (residue e (r, part parts r + 1)) i) a).1
-    ∙ sym (eqb-true (residue e (r, part parts r)) i (and_split (is_removable parts (r, part parts r)) (nat_eq (residue e (r, part parts r)) i) b).1))
 
 -- ---- the counts above the next row are those above this row and those in it
 
@@ -68,6 +55,10 @@ and_assoc : (a b c : Bool) → (a && (b && c)) ≡ ((a && b) && c)
 and_assoc true b c = refl
 and_assoc false b c = refl
 
+and_true : (b : Bool) → (b && true) ≡ b
+and_true true = refl
+and_true false = refl
+
 and_false : (a b : Bool) → b ≡ false → (a && b) ≡ false
 and_false true b h = h
 and_false false b h = refl
@@ -92,10 +83,6 @@ here g r a (suc n) lo hi = count-cons (λ s. g s && nat_eq s r) a (range_with_le
         let first : ◌≡◌ {A = ℕ} (cond (g a && nat_eq a r) 1 0) (cond (g r) 1 0) = ap₂ (λ b s. cond (g s && b) 1 0) (eq-eqb a r same) same ∙ ap (λ b. cond b 1 0) (and_true (g r)) in
         let rest : count_by (λ s. g s && nat_eq s r) (range_with_len (a + 1) n) ≡ 0 = elsewhere g r (a + 1) n (λ s lo hi. omega arith) in
         omega (arith, first, rest)
-      where
-        and_true : (b : Bool) → (b && true) ≡ b
-        and_true true = refl
-        and_true false = refl
     settle later (inr lt) =
         let first : ◌≡◌ {A = ℕ} (cond (g a && nat_eq a r) 1 0) 0 = ap (λ b. cond b 1 0) (and_false (g a) (nat_eq a r) (ne_eqb a r (omega arith))) in
         omega (arith, first, later (omega arith) (omega arith))
@@ -103,28 +90,7 @@ here g r a (suc n) lo hi = count-cons (λ s. g s && nat_eq s r) a (range_with_le
 -- ---- addable nodes
 
 no_further : (e i : ℕ) (parts : List ℕ) (r : ℕ) → length parts + 1 < r → addable_at e i parts r ≡ false
-no_further e i parts r far =
-    elim (addable_at e i parts r) as (λ b. addable_at e i parts r ≡ b → b ≡ false) [
-      | true ↦ λ h. absurd (above_it (or_split (nat_eq r 1) (in_diagram parts (r - 1, part parts r + 1)) (split_room h)))
-      | false ↦ λ h. refl
-    ] refl
-  where
-    or_split : (a b : Bool) → (a || b) ≡ true → (a ≡ true) ⊎ (b ≡ true)
-    or_split true b h = inl refl
-    or_split false b h = inr h
-
-    split_room : addable_at e i parts r ≡ true → (nat_eq r 1 || in_diagram parts (r - 1, part parts r + 1)) ≡ true
-    split_room h =
-        let p = and_split (is_addable parts (r, part parts r + 1)) (nat_eq (residue e (r, part parts r + 1)) i) h in
-        let q = and_split (not (in_diagram parts (r, part parts r + 1))) ((nat_eq (part parts r + 1) 1 || in_diagram parts (r, part parts r + 1 - 1)) && (nat_eq r 1 || in_diagram parts (r - 1, part parts r + 1))) p.0 in
-        (and_split (nat_eq (part parts r + 1) 1 || in_diagram parts (r, part parts r + 1 - 1)) (nat_eq r 1 || in_diagram parts (r - 1, part parts r + 1)) q.1).1
-
-    above_it : (nat_eq r 1 ≡ true) ⊎ (in_diagram parts (r - 1, part parts r + 1) ≡ true) → ⊥
-    above_it (inl first) = let one : r ≡ 1 = eqb-true r 1 first in omega arith
-    above_it (inr inside) =
-        let v = node_in parts (r - 1) (part parts r + 1) inside in
-        let short : r - 1 - 1 < length parts = index_short parts (r - 1 - 1) (omega (arith, v.within)) in
-        omega arith
+no_further e i parts r far = not_true (addable_at e i parts r) (λ h. let near : r ≤ length parts + 1 = gain_near e i parts r (addable_facts e i parts r h) in omega arith)
 
 row_addable : (e i : ℕ) (parts : List ℕ) (r : ℕ) → 1 ≤ r → count_by (in_row e i r) (addable parts) ≡ cond (addable_at e i parts r) 1 0
 row_addable e i parts r hr =
@@ -167,10 +133,6 @@ row_count g a (p ∷ parts) k =
 
         apart : (a j : ℕ) → suc a + j ≢ a + 0
         apart a j = omega arith
-
-        and_true : (b : Bool) → (b && true) ≡ b
-        and_true true = refl
-        and_true false = refl
     by_row (suc k) further =
         let this : count_by (λ c. g (a, c) && nat_eq a (a + suc k)) (from_one_to p) ≡ 0 =
             count_zero (λ c. g (a, c) && nat_eq a (a + suc k)) (from_one_to p)
@@ -228,10 +190,7 @@ row_removable e i parts r hr =
         none = ap (λ b. b && (not (in_diagram parts (r, 0 + 1)) && not (in_diagram parts (r + 1, 0)))) outside
           where
             outside : in_diagram parts (r, 0) ≡ false
-            outside = elim (in_diagram parts (r, 0)) as (λ b. in_diagram parts (r, 0) ≡ b → b ≡ false) [
-              | true ↦ λ h. let v = node_in parts r 0 h in absurd (omega (arith, v.column))
-              | false ↦ λ h. refl
-            ] refl
+            outside = not_true (in_diagram parts (r, 0)) (λ h. let v = node_in parts r 0 h in omega (arith, v.column))
     by_length (suc p) is =
         count_last (λ c. is_removable parts (r, c) && nat_eq (residue e (r, c)) i) 1 p (λ c lo hi. inner c lo (omega arith))
         ∙ ap (λ c. cond (is_removable parts (r, c) && nat_eq (residue e (r, c)) i) 1 0) (one_more p ∙ sym is)
