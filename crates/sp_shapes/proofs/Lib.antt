@@ -5,3 +5,4 @@ pub mod Moves
 pub mod Residues
 pub mod Regular
 pub mod Grow
+pub mod Within
