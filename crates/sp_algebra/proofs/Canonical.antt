@@ -13,7 +13,8 @@ above-negated k ((j, c) ∷ p) (h, hs) = (h, above-negated k p hs)
 
 pub canonical-negated : (p : Laurent) → Canonical p → Canonical (map (λ t. (t.0, neg_ℤ t.1)) p)
 canonical-negated [] h = tt
-canonical-negated ((k, c) ∷ p) (ne, (a, h)) = ((λ e. ne (omega (arith, ints, e))), (above-negated k p a, canonical-negated p h))
+canonical-negated ((k, c) ∷ p) (ne, (a, h)) =
+    ((λ e. ne (omega (arith, ints, e))), (above-negated k p a, canonical-negated p h))
 
 -- what a loop over the terms makes
 pub negate_is : (p : Laurent) → IsLaurent p → negate p ≡ map (λ t. (t.0, neg_ℤ t.1)) p

@@ -1,11 +1,15 @@
 -- The laws of Laurent polynomials.
-use Rattle.std.proofs.Common.{◌≡◌, ◌≢◌, Bool, true, false, cond, [], ◌∷◌, ◌++◌, map, filter, refl, sym, ◌∙◌, ap, ap₂, subst, ℤ, pos, neg_ℤ, ◌+ℤ◌, ◌-ℤ◌, ◌*ℤ◌, ◌<ℤ◌, ◌≤ℤ◌, int_cmp, int_eq, int_lt, int_le, arith, Less, Equal, Greater}
+use Rattle.std.proofs.Common.{◌≡◌, ◌≢◌, Bool, true, false, cond, [], ◌∷◌, ◌++◌, map, filter, refl, sym, ◌∙◌, ap, ap₂}
+use Rattle.std.proofs.Common.{subst, ℤ, pos, neg_ℤ, ◌+ℤ◌, ◌-ℤ◌, ◌*ℤ◌, ◌<ℤ◌, ◌≤ℤ◌, int_cmp, int_eq, int_lt, int_le}
+use Rattle.std.proofs.Common.{arith, Less, Equal, Greater}
 use Rattle.std.proofs.lemmas.Int.{ints}
 use Rattle.std.specs.Ordering.{MatchOrdering}
 use Rattle.std.specs.Cmp.{int_ranks}
-use Rattle.sp_defs.specs.Laurent.{Laurent, coefficient, put, placed, add_term, collect, plus, negate, products, times, bar, lift, one, IsLaurent, IsBarInvariant, IsPositive}
+use Rattle.sp_defs.specs.Laurent.{Laurent, coefficient, put, placed, add_term, collect, plus, negate, products, times}
+use Rattle.sp_defs.specs.Laurent.{bar, lift, one, IsLaurent, IsBarInvariant, IsPositive}
 use Rattle.sp_algebra.proofs.Whole.{+ℤ-times, times-+ℤ, *ℤ_assoc}
-use Rattle.sp_algebra.proofs.Coefficients.{at, by_eq, at-same, at-other, coefficient-append, coefficient-collect, same_laurent, IsLaurent-collect}
+use Rattle.sp_algebra.proofs.Coefficients.{at, by_eq, at-same, at-other, coefficient-append, coefficient-collect}
+use Rattle.sp_algebra.proofs.Coefficients.{same_laurent, IsLaurent-collect}
 
 -- ---- sums
 
@@ -17,7 +21,8 @@ coefficient-negated : (p : Laurent) (j : ℤ) → coefficient (map (λ t. (t.0, 
 unfolding coefficient
 coefficient-negated [] j = refl
 coefficient-negated ((k, c) ∷ p) j =
-    elim (int_eq k j) as (λ b. cond b (neg_ℤ c) (pos 0) +ℤ coefficient (map (λ t. (t.0, neg_ℤ t.1)) p) j ≡ neg_ℤ (cond b c (pos 0) +ℤ coefficient p j)) [
+    elim (int_eq k j) as (λ b. cond b (neg_ℤ c) (pos 0) +ℤ coefficient (map (λ t. (t.0, neg_ℤ t.1)) p) j
+    ≡ neg_ℤ (cond b c (pos 0) +ℤ coefficient p j)) [
       | true ↦ omega (arith, ints, coefficient-negated p j)
       | false ↦ omega (arith, ints, coefficient-negated p j)
     ]
@@ -44,18 +49,29 @@ IsLaurent-bar p = IsLaurent-collect (map (λ t. (neg_ℤ t.0, t.1)) p)
 
 pub IsLaurent-lift : (p : Laurent) → IsLaurent (lift p)
 unfolding lift
-IsLaurent-lift p = IsLaurent-collect (filter (λ t. int_le t.0 (pos 0)) p ++ map (λ t. (neg_ℤ t.0, t.1)) (filter (λ t. int_lt t.0 (pos 0)) p))
+IsLaurent-lift p =
+    IsLaurent-collect
+    (filter (λ t. int_le t.0 (pos 0)) p ++ map (λ t. (neg_ℤ t.0, t.1)) (filter (λ t. int_lt t.0 (pos 0)) p))
 
 -- a bar-invariant polynomial is in canonical form
 pub IsLaurent-bar_invariant : (p : Laurent) → IsBarInvariant p → IsLaurent p
 IsLaurent-bar_invariant p h = subst (λ q. IsLaurent q) h (IsLaurent-bar p)
 
 pub plus_comm : (p q : Laurent) → plus p q ≡ plus q p
-plus_comm p q = same_laurent _ _ (IsLaurent-plus p q) (IsLaurent-plus q p) (λ j. omega (arith, ints, coefficient-plus p q j, coefficient-plus q p j))
+plus_comm p q = same_laurent _ _ (IsLaurent-plus p q) (IsLaurent-plus q p)
+    (λ j. omega (arith, ints, coefficient-plus p q j, coefficient-plus q p j))
 
 pub plus_assoc : (p q r : Laurent) → plus (plus p q) r ≡ plus p (plus q r)
 plus_assoc p q r = same_laurent _ _ (IsLaurent-plus (plus p q) r) (IsLaurent-plus p (plus q r))
-    (λ j. omega (arith, ints, coefficient-plus (plus p q) r j, coefficient-plus p q j, coefficient-plus p (plus q r) j, coefficient-plus q r j))
+    (λ j.
+    omega (
+      arith,
+      ints,
+      coefficient-plus (plus p q) r j,
+      coefficient-plus p q j,
+      coefficient-plus p (plus q r) j,
+      coefficient-plus q r j,
+    ))
 
 pub plus_nought : (p : Laurent) → IsLaurent p → plus p [] ≡ p
 unfolding coefficient
@@ -67,7 +83,8 @@ nought_plus p h = h
 
 pub plus_negate : (p : Laurent) → plus p (negate p) ≡ []
 unfolding coefficient collect
-plus_negate p = same_laurent _ _ (IsLaurent-plus p (negate p)) refl (λ j. omega (arith, ints, coefficient-plus p (negate p) j, coefficient-negate p j))
+plus_negate p = same_laurent _ _ (IsLaurent-plus p (negate p)) refl
+    (λ j. omega (arith, ints, coefficient-plus p (negate p) j, coefficient-negate p j))
 
 -- ---- products: a polynomial acts on coefficient functions
 
@@ -81,7 +98,8 @@ act-alike p f g j e = ap (λ h. act p h j) (λ i x. e x i)
 pub act-append : (p q : Laurent) (f : ℤ → ℤ) (j : ℤ) → act (p ++ q) f j ≡ act p f j +ℤ act q f j
 unfolding act
 act-append [] q f j = omega (arith, ints)
-act-append ((k, c) ∷ p) q f j = ap (λ x. c *ℤ f (j -ℤ k) +ℤ x) (act-append p q f j) ∙ sum_assoc (c *ℤ f (j -ℤ k)) (act p f j) (act q f j)
+act-append ((k, c) ∷ p) q f j =
+    ap (λ x. c *ℤ f (j -ℤ k) +ℤ x) (act-append p q f j) ∙ sum_assoc (c *ℤ f (j -ℤ k)) (act p f j) (act q f j)
   where
     sum_assoc : (x y z : ℤ) → x +ℤ (y +ℤ z) ≡ (x +ℤ y) +ℤ z
     sum_assoc x y z = omega (arith, ints)
@@ -100,11 +118,14 @@ act-add_term : (k c : ℤ) (p : Laurent) (f : ℤ → ℤ) (j : ℤ) → act (ad
 unfolding act add_term
 act-add_term k c [] f j = act-put k c [] f j
 act-add_term k c ((l, d) ∷ p) f j =
-    elim (int_cmp k l) as (λ o. MatchOrdering o (k <ℤ l) (k ≡ l) (l <ℤ k) → act (placed o (k, c) (l, d) p (add_term k c p)) f j ≡ c *ℤ f (j -ℤ k) +ℤ (d *ℤ f (j -ℤ l) +ℤ act p f j)) [
+    elim (int_cmp k l) as (λ o. MatchOrdering o (k <ℤ l) (k ≡ l) (l <ℤ k) →
+    act (placed o (k, c) (l, d) p (add_term k c p)) f j ≡ c *ℤ f (j -ℤ k) +ℤ (d *ℤ f (j -ℤ l) +ℤ act p f j)) [
       | Less ↦ λ _. act-put k c ((l, d) ∷ p) f j
       | Equal ↦ λ e. subst (λ x. act (put k (c +ℤ d) p) f j ≡ c *ℤ f (j -ℤ k) +ℤ (d *ℤ f (j -ℤ x) +ℤ act p f j)) e
           (act-put k (c +ℤ d) p f j ∙ both c d (f (j -ℤ k)) (act p f j))
-      | Greater ↦ λ _. ap (λ x. d *ℤ f (j -ℤ l) +ℤ x) (act-add_term k c p f j) ∙ swapped (d *ℤ f (j -ℤ l)) (c *ℤ f (j -ℤ k)) (act p f j)
+      | Greater ↦ λ _.
+          ap (λ x. d *ℤ f (j -ℤ l) +ℤ x) (act-add_term k c p f j)
+          ∙ swapped (d *ℤ f (j -ℤ l)) (c *ℤ f (j -ℤ k)) (act p f j)
     ] (int_ranks k l)
   where
     both : (c d x y : ℤ) → (c +ℤ d) *ℤ x +ℤ y ≡ c *ℤ x +ℤ (d *ℤ x +ℤ y)
@@ -127,7 +148,8 @@ scale_step c d x y z e = ap (λ w. (c *ℤ d) *ℤ x +ℤ w) e ∙ poly c d x y
     poly : (c d x y : ℤ) → (c *ℤ d) *ℤ x +ℤ c *ℤ y ≡ c *ℤ (d *ℤ x +ℤ y)
     poly c d x y = omega (arith, ints, times-+ℤ c (d *ℤ x) y, *ℤ_assoc c d x)
 
-act-scaled : (k c : ℤ) (q : Laurent) (f : ℤ → ℤ) (j : ℤ) → act (map (λ t. (k +ℤ t.0, c *ℤ t.1)) q) f j ≡ c *ℤ act q f (j -ℤ k)
+act-scaled : (k c : ℤ) (q : Laurent) (f : ℤ → ℤ) (j : ℤ) →
+    act (map (λ t. (k +ℤ t.0, c *ℤ t.1)) q) f j ≡ c *ℤ act q f (j -ℤ k)
 unfolding act
 act-scaled k c [] f j = omega (arith, ints)
 act-scaled k c ((l, d) ∷ q) f j =
@@ -138,7 +160,8 @@ act-products : (p q : Laurent) (f : ℤ → ℤ) (j : ℤ) → act (products p q
 unfolding act products
 act-products [] q f j = refl
 act-products ((k, c) ∷ p) q f j =
-    act-append (map (λ t. (k +ℤ t.0, c *ℤ t.1)) q) (products p q) f j ∙ ap₂ (λ x y. x +ℤ y) (act-scaled k c q f j) (act-products p q f j)
+    act-append (map (λ t. (k +ℤ t.0, c *ℤ t.1)) q) (products p q) f j
+    ∙ ap₂ (λ x y. x +ℤ y) (act-scaled k c q f j) (act-products p q f j)
 
 pub act-times : (p q : Laurent) (f : ℤ → ℤ) (j : ℤ) → act (times p q) f j ≡ act p (act q f) j
 unfolding times
@@ -146,17 +169,23 @@ act-times p q f j = act-collect (products p q) f j ∙ act-products p q f j
 
 at-scaled : (k l c d j : ℤ) → at (k +ℤ l) (c *ℤ d) j ≡ c *ℤ at l d (j -ℤ k)
 at-scaled k l c d j = by_eq (k +ℤ l) j (λ b. cond b (c *ℤ d) (pos 0) ≡ c *ℤ at l d (j -ℤ k))
-    (λ e. let s : l ≡ j -ℤ k = omega (arith, ints) in subst (λ x. c *ℤ d ≡ c *ℤ at l d x) s (ap (λ x. c *ℤ x) (sym (at-same l d))))
-    (λ ne. let s : l ≢ j -ℤ k = λ e. ne (omega (arith, ints)) in nothing c ∙ ap (λ x. c *ℤ x) (sym (at-other l d (j -ℤ k) s)))
+    (λ e.
+    let s : l ≡ j -ℤ k = omega (arith, ints) in
+    subst (λ x. c *ℤ d ≡ c *ℤ at l d x) s (ap (λ x. c *ℤ x) (sym (at-same l d))))
+    (λ ne.
+    let s : l ≢ j -ℤ k = λ e. ne (omega (arith, ints)) in
+    nothing c ∙ ap (λ x. c *ℤ x) (sym (at-other l d (j -ℤ k) s)))
   where
     nothing : (x : ℤ) → pos 0 ≡ x *ℤ pos 0
     nothing x = omega (arith, ints)
 
-coefficient-scaled : (k c : ℤ) (q : Laurent) (j : ℤ) → coefficient (map (λ t. (k +ℤ t.0, c *ℤ t.1)) q) j ≡ c *ℤ coefficient q (j -ℤ k)
+coefficient-scaled : (k c : ℤ) (q : Laurent) (j : ℤ) →
+    coefficient (map (λ t. (k +ℤ t.0, c *ℤ t.1)) q) j ≡ c *ℤ coefficient q (j -ℤ k)
 unfolding coefficient
 coefficient-scaled k c [] j = omega (arith, ints)
 coefficient-scaled k c ((l, d) ∷ q) j =
-    ap₂ (λ x y. x +ℤ y) (at-scaled k l c d j) (coefficient-scaled k c q j) ∙ joined c (at l d (j -ℤ k)) (coefficient q (j -ℤ k))
+    ap₂ (λ x y. x +ℤ y) (at-scaled k l c d j) (coefficient-scaled k c q j)
+    ∙ joined c (at l d (j -ℤ k)) (coefficient q (j -ℤ k))
   where
     joined : (c x y : ℤ) → c *ℤ x +ℤ c *ℤ y ≡ c *ℤ (x +ℤ y)
     joined c x y = sym (times-+ℤ c x y)
@@ -165,7 +194,8 @@ coefficient-products : (p q : Laurent) (j : ℤ) → coefficient (products p q) 
 unfolding coefficient products act
 coefficient-products [] q j = refl
 coefficient-products ((k, c) ∷ p) q j =
-    coefficient-append (map (λ t. (k +ℤ t.0, c *ℤ t.1)) q) (products p q) j ∙ ap₂ (λ x y. x +ℤ y) (coefficient-scaled k c q j) (coefficient-products p q j)
+    coefficient-append (map (λ t. (k +ℤ t.0, c *ℤ t.1)) q) (products p q) j
+    ∙ ap₂ (λ x y. x +ℤ y) (coefficient-scaled k c q j) (coefficient-products p q j)
 
 pub coefficient-times : (p q : Laurent) (j : ℤ) → coefficient (times p q) j ≡ act p (coefficient q) j
 unfolding times
@@ -174,25 +204,35 @@ coefficient-times p q j = coefficient-collect (products p q) j ∙ coefficient-p
 pub act-sum : (p : Laurent) (f g : ℤ → ℤ) (j : ℤ) → act p (λ i. f i +ℤ g i) j ≡ act p f j +ℤ act p g j
 unfolding act
 act-sum [] f g j = omega (arith, ints)
-act-sum ((k, c) ∷ p) f g j = ap (λ x. c *ℤ (f (j -ℤ k) +ℤ g (j -ℤ k)) +ℤ x) (act-sum p f g j) ∙ spread c (f (j -ℤ k)) (g (j -ℤ k)) (act p f j) (act p g j)
+act-sum ((k, c) ∷ p) f g j =
+    ap (λ x. c *ℤ (f (j -ℤ k) +ℤ g (j -ℤ k)) +ℤ x) (act-sum p f g j)
+    ∙ spread c (f (j -ℤ k)) (g (j -ℤ k)) (act p f j) (act p g j)
   where
     spread : (c x y u v : ℤ) → c *ℤ (x +ℤ y) +ℤ (u +ℤ v) ≡ (c *ℤ x +ℤ u) +ℤ (c *ℤ y +ℤ v)
     spread c x y u v = omega (arith, ints, times-+ℤ c x y)
 
 pub times_assoc : (p q r : Laurent) → times (times p q) r ≡ times p (times q r)
 times_assoc p q r = same_laurent _ _ (IsLaurent-times (times p q) r) (IsLaurent-times p (times q r))
-    (λ j. coefficient-times (times p q) r j ∙ act-times p q (coefficient r) j ∙ act-alike p _ _ j (λ i. sym (coefficient-times q r i)) ∙ sym (coefficient-times p (times q r) j))
+    (λ j.
+    coefficient-times (times p q) r j
+    ∙ act-times p q (coefficient r) j
+    ∙ act-alike p _ _ j (λ i. sym (coefficient-times q r i))
+    ∙ sym (coefficient-times p (times q r) j))
 
 pub times_plus : (p q r : Laurent) → times p (plus q r) ≡ plus (times p q) (times p r)
 times_plus p q r = same_laurent _ _ (IsLaurent-times p (plus q r)) (IsLaurent-plus (times p q) (times p r))
-    (λ j. coefficient-times p (plus q r) j ∙ act-alike p _ _ j (coefficient-plus q r) ∙ act-sum p (coefficient q) (coefficient r) j
-    ∙ ap₂ (λ x y. x +ℤ y) (sym (coefficient-times p q j)) (sym (coefficient-times p r j)) ∙ sym (coefficient-plus (times p q) (times p r) j))
+    (λ j. coefficient-times p (plus q r) j
+    ∙ act-alike p _ _ j (coefficient-plus q r)
+    ∙ act-sum p (coefficient q) (coefficient r) j
+    ∙ ap₂ (λ x y. x +ℤ y) (sym (coefficient-times p q j)) (sym (coefficient-times p r j))
+    ∙ sym (coefficient-plus (times p q) (times p r) j))
 
 pub plus_times : (p q r : Laurent) → times (plus p q) r ≡ plus (times p r) (times q r)
 unfolding plus
 plus_times p q r = same_laurent _ _ (IsLaurent-times (plus p q) r) (IsLaurent-plus (times p r) (times q r))
     (λ j. coefficient-times (plus p q) r j ∙ act-collect (p ++ q) (coefficient r) j ∙ act-append p q (coefficient r) j
-    ∙ ap₂ (λ x y. x +ℤ y) (sym (coefficient-times p r j)) (sym (coefficient-times q r j)) ∙ sym (coefficient-plus (times p r) (times q r) j))
+    ∙ ap₂ (λ x y. x +ℤ y) (sym (coefficient-times p r j)) (sym (coefficient-times q r j))
+    ∙ sym (coefficient-plus (times p r) (times q r) j))
 
 act-one : (f : ℤ → ℤ) (j : ℤ) → act one f j ≡ f j
 unfolding act
@@ -207,7 +247,10 @@ act-one f j = unit_step (f (j -ℤ pos 0)) ∙ ap f (minus_zero j)
 act-coefficient-one : (p : Laurent) (j : ℤ) → act p (coefficient one) j ≡ coefficient p j
 unfolding act coefficient
 act-coefficient-one [] j = refl
-act-coefficient-one ((k, c) ∷ p) j = ap₂ (λ x y. x +ℤ y) (ap (λ x. c *ℤ x) (plain (at (pos 0) (pos 1) (j -ℤ k))) ∙ sym (at-scaled k (pos 0) c (pos 1) j) ∙ ap₂ (λ x y. at x y j) (no_shift k) (times_one_ℤ c)) (act-coefficient-one p j)
+act-coefficient-one ((k, c) ∷ p) j = ap₂ (λ x y. x +ℤ y)
+    (ap (λ x. c *ℤ x) (plain (at (pos 0) (pos 1) (j -ℤ k)))
+    ∙ sym (at-scaled k (pos 0) c (pos 1) j)
+    ∙ ap₂ (λ x y. at x y j) (no_shift k) (times_one_ℤ c)) (act-coefficient-one p j)
   where
     plain : (x : ℤ) → x +ℤ pos 0 ≡ x
     plain x = omega (arith, ints)
@@ -260,10 +303,12 @@ coefficient-bar p j = coefficient-collect (map (λ t. (neg_ℤ t.0, t.1)) p) j �
 pub even_coefficients : (p : Laurent) → IsBarInvariant p → (j : ℤ) → coefficient p (neg_ℤ j) ≡ coefficient p j
 even_coefficients p h j = sym (coefficient-bar p j) ∙ ap (λ q. coefficient q j) h
 
-pub bar_invariant-from : (p : Laurent) → IsLaurent p → ((j : ℤ) → coefficient p (neg_ℤ j) ≡ coefficient p j) → IsBarInvariant p
+pub bar_invariant-from : (p : Laurent) → IsLaurent p → ((j : ℤ) → coefficient p (neg_ℤ j) ≡ coefficient p j) →
+    IsBarInvariant p
 bar_invariant-from p l e = same_laurent _ _ (IsLaurent-bar p) l (λ j. coefficient-bar p j ∙ e j)
 
-act-barred : (p : Laurent) (f : ℤ → ℤ) (j : ℤ) → act (map (λ t. (neg_ℤ t.0, t.1)) p) (λ i. f (neg_ℤ i)) j ≡ act p f (neg_ℤ j)
+act-barred : (p : Laurent) (f : ℤ → ℤ) (j : ℤ) →
+    act (map (λ t. (neg_ℤ t.0, t.1)) p) (λ i. f (neg_ℤ i)) j ≡ act p f (neg_ℤ j)
 unfolding act
 act-barred [] f j = refl
 act-barred ((k, c) ∷ p) f j = ap₂ (λ x y. c *ℤ f x +ℤ y) (turned j k) (act-barred p f j)
@@ -276,14 +321,23 @@ unfolding bar
 bar_times p q = same_laurent _ _ (IsLaurent-bar (times p q)) (IsLaurent-times (bar p) (bar q))
     (λ j. coefficient-bar (times p q) j ∙ coefficient-times p q (neg_ℤ j) ∙ sym (act-barred p (coefficient q) j)
     ∙ act-alike (map (λ t. (neg_ℤ t.0, t.1)) p) _ _ j (λ i. sym (coefficient-bar q i))
-    ∙ sym (act-collect (map (λ t. (neg_ℤ t.0, t.1)) p) (coefficient (bar q)) j) ∙ sym (coefficient-times (bar p) (bar q) j))
+    ∙ sym (act-collect (map (λ t. (neg_ℤ t.0, t.1)) p) (coefficient (bar q)) j)
+    ∙ sym (coefficient-times (bar p) (bar q) j))
 
 pub bar_invariant-times : (p q : Laurent) → IsBarInvariant p → IsBarInvariant q → IsBarInvariant (times p q)
 bar_invariant-times p q hp hq = bar_times p q ∙ ap₂ (λ x y. times x y) hp hq
 
 pub bar_invariant-plus : (p q : Laurent) → IsBarInvariant p → IsBarInvariant q → IsBarInvariant (plus p q)
 bar_invariant-plus p q hp hq = bar_invariant-from (plus p q) (IsLaurent-plus p q)
-    (λ j. omega (arith, ints, coefficient-plus p q j, coefficient-plus p q (neg_ℤ j), even_coefficients p hp j, even_coefficients q hq j))
+    (λ j.
+    omega (
+      arith,
+      ints,
+      coefficient-plus p q j,
+      coefficient-plus p q (neg_ℤ j),
+      even_coefficients p hp j,
+      even_coefficients q hq j,
+    ))
 
 pub bar_invariant-negate : (p : Laurent) → IsBarInvariant p → IsBarInvariant (negate p)
 bar_invariant-negate p hp = bar_invariant-from (negate p) (IsLaurent-negate p)
@@ -299,17 +353,25 @@ bar_invariant-one = refl
 
 -- ---- the lift
 
-coefficient-filter : (t : ℤ → Bool) (p : Laurent) (j : ℤ) → coefficient (filter (λ x. t x.0) p) j ≡ cond (t j) (coefficient p j) (pos 0)
+coefficient-filter : (t : ℤ → Bool) (p : Laurent) (j : ℤ) →
+    coefficient (filter (λ x. t x.0) p) j ≡ cond (t j) (coefficient p j) (pos 0)
 unfolding coefficient
 coefficient-filter t [] j = elim (t j) as (λ b. pos 0 ≡ cond b (pos 0) (pos 0)) [ true ↦ refl | false ↦ refl ]
 coefficient-filter t ((k, c) ∷ p) j =
-    by_eq k j (λ b. coefficient (cond (t k) ((k, c) ∷ filter (λ x. t x.0) p) (filter (λ x. t x.0) p)) j ≡ cond (t j) (cond b c (pos 0) +ℤ coefficient p j) (pos 0))
-    (λ e. subst (λ x. coefficient (cond (t k) ((k, c) ∷ filter (λ y. t y.0) p) (filter (λ y. t y.0) p)) x ≡ cond (t x) (c +ℤ coefficient p x) (pos 0)) e
-    (elim (t k) as (λ b. coefficient (filter (λ y. t y.0) p) k ≡ cond b (coefficient p k) (pos 0) → coefficient (cond b ((k, c) ∷ filter (λ y. t y.0) p) (filter (λ y. t y.0) p)) k ≡ cond b (c +ℤ coefficient p k) (pos 0)) [
+    by_eq k j
+    (λ b. coefficient (cond (t k) ((k, c) ∷ filter (λ x. t x.0) p) (filter (λ x. t x.0) p)) j
+    ≡ cond (t j) (cond b c (pos 0) +ℤ coefficient p j) (pos 0))
+    (λ e. subst
+    (λ x. coefficient (cond (t k) ((k, c) ∷ filter (λ y. t y.0) p) (filter (λ y. t y.0) p)) x
+    ≡ cond (t x) (c +ℤ coefficient p x) (pos 0)) e
+    (elim (t k) as (λ b. coefficient (filter (λ y. t y.0) p) k ≡ cond b (coefficient p k) (pos 0) →
+    coefficient (cond b ((k, c) ∷ filter (λ y. t y.0) p) (filter (λ y. t y.0) p)) k
+    ≡ cond b (c +ℤ coefficient p k) (pos 0)) [
       | true ↦ λ h. ap₂ (λ x y. x +ℤ y) (at-same k c) h
       | false ↦ λ h. h
     ] (coefficient-filter t p k)))
-    (λ ne. elim (t k) as (λ b. coefficient (cond b ((k, c) ∷ filter (λ y. t y.0) p) (filter (λ y. t y.0) p)) j ≡ cond (t j) (pos 0 +ℤ coefficient p j) (pos 0)) [
+    (λ ne. elim (t k) as (λ b. coefficient (cond b ((k, c) ∷ filter (λ y. t y.0) p) (filter (λ y. t y.0) p)) j
+    ≡ cond (t j) (pos 0 +ℤ coefficient p j) (pos 0)) [
       | true ↦ ap₂ (λ x y. x +ℤ y) (at-other k c j ne) (coefficient-filter t p j) ∙ spread (t j) (coefficient p j)
       | false ↦ coefficient-filter t p j ∙ ap (λ x. cond (t j) x (pos 0)) (plain (coefficient p j))
     ])
@@ -320,11 +382,16 @@ coefficient-filter t ((k, c) ∷ p) j =
     spread : (b : Bool) (x : ℤ) → pos 0 +ℤ cond b x (pos 0) ≡ cond b (pos 0 +ℤ x) (pos 0)
     spread b x = elim b as (λ b. pos 0 +ℤ cond b x (pos 0) ≡ cond b (pos 0 +ℤ x) (pos 0)) [ true ↦ refl | false ↦ refl ]
 
-pub coefficient-lift : (p : Laurent) (j : ℤ) → coefficient (lift p) j ≡ cond (int_le j (pos 0)) (coefficient p j) (pos 0) +ℤ cond (int_lt (neg_ℤ j) (pos 0)) (coefficient p (neg_ℤ j)) (pos 0)
+pub coefficient-lift : (p : Laurent) (j : ℤ) →
+    coefficient (lift p) j
+    ≡ cond (int_le j (pos 0)) (coefficient p j) (pos 0)
+    +ℤ cond (int_lt (neg_ℤ j) (pos 0)) (coefficient p (neg_ℤ j)) (pos 0)
 unfolding lift
 coefficient-lift p j =
-    coefficient-collect (filter (λ t. int_le t.0 (pos 0)) p ++ map (λ t. (neg_ℤ t.0, t.1)) (filter (λ t. int_lt t.0 (pos 0)) p)) j
-    ∙ coefficient-append (filter (λ t. int_le t.0 (pos 0)) p) (map (λ t. (neg_ℤ t.0, t.1)) (filter (λ t. int_lt t.0 (pos 0)) p)) j
+    coefficient-collect
+    (filter (λ t. int_le t.0 (pos 0)) p ++ map (λ t. (neg_ℤ t.0, t.1)) (filter (λ t. int_lt t.0 (pos 0)) p)) j
+    ∙ coefficient-append (filter (λ t. int_le t.0 (pos 0)) p)
+    (map (λ t. (neg_ℤ t.0, t.1)) (filter (λ t. int_lt t.0 (pos 0)) p)) j
     ∙ ap₂ (λ x y. x +ℤ y) (coefficient-filter (λ k. int_le k (pos 0)) p j)
     (coefficient-barred (filter (λ t. int_lt t.0 (pos 0)) p) j ∙ coefficient-filter (λ k. int_lt k (pos 0)) p (neg_ℤ j))
 
@@ -341,15 +408,25 @@ lt_no : (j : ℤ) → j ≤ℤ pos 0 → int_lt (neg_ℤ j) (pos 0) ≡ false
 lt_no j h = grind (arith, ints)
 
 pub lift-low : (p : Laurent) (j : ℤ) → j ≤ℤ pos 0 → coefficient (lift p) j ≡ coefficient p j
-lift-low p j h = coefficient-lift p j ∙ ap₂ (λ a b. cond a (coefficient p j) (pos 0) +ℤ cond b (coefficient p (neg_ℤ j)) (pos 0)) (le_yes j h) (lt_no j h) ∙ omega (arith, ints)
+lift-low p j h =
+    coefficient-lift p j
+    ∙ ap₂ (λ a b. cond a (coefficient p j) (pos 0) +ℤ cond b (coefficient p (neg_ℤ j)) (pos 0)) (le_yes j h) (lt_no j h)
+    ∙ omega (arith, ints)
 
 pub lift-high : (p : Laurent) (j : ℤ) → pos 0 <ℤ j → coefficient (lift p) j ≡ coefficient p (neg_ℤ j)
-lift-high p j h = coefficient-lift p j ∙ ap₂ (λ a b. cond a (coefficient p j) (pos 0) +ℤ cond b (coefficient p (neg_ℤ j)) (pos 0)) (le_no j h) (lt_yes j h) ∙ omega (arith, ints)
+lift-high p j h =
+    coefficient-lift p j
+    ∙ ap₂ (λ a b. cond a (coefficient p j) (pos 0) +ℤ cond b (coefficient p (neg_ℤ j)) (pos 0)) (le_no j h) (lt_yes j h)
+    ∙ omega (arith, ints)
 
 pub bar_invariant-lift : (p : Laurent) → IsBarInvariant (lift p)
 bar_invariant-lift p = bar_invariant-from (lift p) (IsLaurent-lift p) (λ j.
-    elim (int_cmp j (pos 0)) as (λ o. MatchOrdering o (j <ℤ pos 0) (j ≡ pos 0) (pos 0 <ℤ j) → coefficient (lift p) (neg_ℤ j) ≡ coefficient (lift p) j) [
-      | Less ↦ λ lt. lift-high p (neg_ℤ j) (omega (arith, ints)) ∙ ap (coefficient p) (twice j) ∙ sym (lift-low p j (omega (arith, ints)))
+    elim (int_cmp j (pos 0)) as (λ o. MatchOrdering o (j <ℤ pos 0) (j ≡ pos 0) (pos 0 <ℤ j) →
+    coefficient (lift p) (neg_ℤ j) ≡ coefficient (lift p) j) [
+      | Less ↦ λ lt.
+          lift-high p (neg_ℤ j) (omega (arith, ints))
+          ∙ ap (coefficient p) (twice j)
+          ∙ sym (lift-low p j (omega (arith, ints)))
       | Equal ↦ λ e. ap (coefficient (lift p)) (zero_side j e)
       | Greater ↦ λ gt. lift-low p (neg_ℤ j) (omega (arith, ints)) ∙ sym (lift-high p j gt)
     ] (int_ranks j (pos 0)))
@@ -362,12 +439,15 @@ bar_invariant-lift p = bar_invariant-from (lift p) (IsLaurent-lift p) (λ j.
 
 -- the rest after the lift has positive powers alone
 pub lift_rest : (p : Laurent) → IsPositive (plus p (negate (lift p)))
-lift_rest p j h = omega (arith, ints, coefficient-plus p (negate (lift p)) j, coefficient-negate (lift p) j, lift-low p j h)
+lift_rest p j h =
+    omega (arith, ints, coefficient-plus p (negate (lift p)) j, coefficient-negate (lift p) j, lift-low p j h)
 
 -- two bar-invariant polynomials with the same coefficients at the powers up to 0 are equal
-pub same_bar_invariant : (p q : Laurent) → IsBarInvariant p → IsBarInvariant q → ((j : ℤ) → j ≤ℤ pos 0 → coefficient p j ≡ coefficient q j) → p ≡ q
+pub same_bar_invariant : (p q : Laurent) → IsBarInvariant p → IsBarInvariant q →
+    ((j : ℤ) → j ≤ℤ pos 0 → coefficient p j ≡ coefficient q j) → p ≡ q
 same_bar_invariant p q hp hq e = same_laurent p q (IsLaurent-bar_invariant p hp) (IsLaurent-bar_invariant q hq) (λ j.
-    elim (int_cmp j (pos 0)) as (λ o. MatchOrdering o (j <ℤ pos 0) (j ≡ pos 0) (pos 0 <ℤ j) → coefficient p j ≡ coefficient q j) [
+    elim (int_cmp j (pos 0)) as (λ o. MatchOrdering o (j <ℤ pos 0) (j ≡ pos 0) (pos 0 <ℤ j) →
+    coefficient p j ≡ coefficient q j) [
       | Less ↦ λ lt. e j (omega (arith, ints))
       | Equal ↦ λ s. e j (omega (arith, ints))
       | Greater ↦ λ gt. sym (even_coefficients p hp j) ∙ e (neg_ℤ j) (omega (arith, ints)) ∙ even_coefficients q hq j

@@ -5,3 +5,5 @@ pub mod Laws
 pub mod Sums
 pub mod Positive
 pub mod PositiveSizes
+pub mod Sizes
+pub mod Places

@@ -1,5 +1,6 @@
 -- Polynomials whose coefficients are all positive.
-use Rattle.std.proofs.Common.{◌≡◌, true, false, cond, List, [], ◌∷◌, ◌++◌, arith, ℤ, pos, ◌+ℤ◌, ◌<ℤ◌, Less, Equal, Greater, int_cmp, int_eq}
+use Rattle.std.proofs.Common.{◌≡◌, true, false, cond, List, [], ◌∷◌, ◌++◌, arith, ℤ, pos, ◌+ℤ◌, ◌<ℤ◌, Less, Equal}
+use Rattle.std.proofs.Common.{Greater, int_cmp, int_eq}
 use Rattle.std.proofs.lemmas.Int.{ints}
 use Rattle.std.specs.List.{AllByRecursion}
 use Rattle.sp_defs.specs.Laurent.{Laurent, put, placed, add_term, collect, plus, power, sum_over}
@@ -9,7 +10,8 @@ abbrev pub AllPositive : Laurent → Type 0
 AllPositive p = AllByRecursion (λ t. pos 0 <ℤ t.1) p
 
 positive_put : (k c : ℤ) (p : Laurent) → pos 0 <ℤ c → AllPositive p → AllPositive (put k c p)
-positive_put k c p hc h = elim (int_eq c (pos 0)) as (λ b. AllPositive (cond b p ((k, c) ∷ p))) [ true ↦ h | false ↦ (hc, h) ]
+positive_put k c p hc h =
+    elim (int_eq c (pos 0)) as (λ b. AllPositive (cond b p ((k, c) ∷ p))) [ true ↦ h | false ↦ (hc, h) ]
 
 positive_add_term : (k c : ℤ) (p : Laurent) → pos 0 <ℤ c → AllPositive p → AllPositive (add_term k c p)
 unfolding add_term
@@ -33,4 +35,5 @@ positive_plus p q hp hq = positive_collect (p ++ q) (all_append (λ t. pos 0 <�
 pub positive_sum : {X : Type 0} (xs : List X) (f : X → ℤ) → AllPositive (sum_over xs (λ x. power (f x)))
 unfolding sum_over
 positive_sum [] f = tt
-positive_sum (x ∷ xs) f = positive_plus (power (f x)) (sum_over xs (λ x. power (f x))) ((omega (arith, ints), tt)) (positive_sum xs f)
+positive_sum (x ∷ xs) f =
+    positive_plus (power (f x)) (sum_over xs (λ x. power (f x))) ((omega (arith, ints), tt)) (positive_sum xs f)

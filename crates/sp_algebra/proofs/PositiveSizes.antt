@@ -32,8 +32,8 @@ size-add_term k c ((j, d) ∷ p) hc (hd, h) =
     elim (int_cmp k j) as (λ o. size (placed o (k, c) (j, d) p (add_term k c p)) ≡ unsigned_abs c + size ((j, d) ∷ p)) [
       | Less ↦ size-put k c ((j, d) ∷ p) hc
       | Equal ↦
-        let sum : size (put k (c +ℤ d) p) ≡ unsigned_abs (c +ℤ d) + size p = size-put k (c +ℤ d) p (omega (arith, ints)) in
-        omega (arith, sum, abs-sum c d hc hd, size-cons j d p)
+          let sum : size (put k (c +ℤ d) p) ≡ unsigned_abs (c +ℤ d) + size p = size-put k (c +ℤ d) p (omega (arith, ints)) in
+          omega (arith, sum, abs-sum c d hc hd, size-cons j d p)
       | Greater ↦ omega (arith, size-cons j d (add_term k c p), size-add_term k c p hc h, size-cons j d p)
     ]
 

@@ -12,7 +12,11 @@ not_empty (p ∷ mu) h ne = IsPartition-head p mu h
 
 pub move_law : MoveLaw
 move_law e mu h = record {
-  good_keeps = λ i x g. let k = good_keeps e h.e_least i mu h.partition h.regular x g in record { e_least = h.e_least; partition = k.0; regular = k.1 };
-  cogood_keeps = λ i x g. let k = cogood_keeps e h.e_least i mu h.partition h.regular x g in record { e_least = h.e_least; partition = k.0; regular = k.1 };
+  good_keeps = λ i x g.
+      let k = good_keeps e h.e_least i mu h.partition h.regular x g in
+      record { e_least = h.e_least; partition = k.0; regular = k.1 };
+  cogood_keeps = λ i x g.
+      let k = cogood_keeps e h.e_least i mu h.partition h.regular x g in
+      record { e_least = h.e_least; partition = k.0; regular = k.1 };
   good_exists = λ ne. good_exists e mu h.e_least h.partition h.regular (not_empty mu h.partition ne);
 }

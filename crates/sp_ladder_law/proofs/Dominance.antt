@@ -1,5 +1,8 @@
--- If from each ladder on a partition has at most as many nodes as an e-regular one of its degree, then the latter dominates it.
-use Rattle.std.proofs.Common.{◌≡◌, ℕ, zero, suc, ◌+◌, ◌-◌, ◌*◌, ◌<◌, ◌≤◌, Bool, true, false, cond, List, [], ◌∷◌, ◌++◌, map, take, refl, sym, ◌∙◌, ap, subst, arith, count_by, sum, nat_le, slice_index, ◌⊎◌, inl, inr, le-leb, leb-true, mul-le-mul_left}
+-- If from each ladder on a partition has at most as many nodes as an e-regular one of its degree, then the latter
+-- dominates it.
+use Rattle.std.proofs.Common.{◌≡◌, ℕ, zero, suc, ◌+◌, ◌-◌, ◌*◌, ◌<◌, ◌≤◌, Bool, true, false, cond, List, [], ◌∷◌, ◌++◌}
+use Rattle.std.proofs.Common.{map, take, refl, sym, ◌∙◌, ap, subst, arith, count_by, sum, nat_le, slice_index, ◌⊎◌, inl}
+use Rattle.std.proofs.Common.{inr, le-leb, leb-true, mul-le-mul_left}
 use Rattle.std.specs.List.{range_with_len}
 use Rattle.std.proofs.lemmas.List.Sums.{sum_by-cons, sum_by-append}
 use Rattle.sp_defs.specs.Partition.{degree, IsPartition, Dominates, is_regular, from_one_to}
@@ -14,7 +17,8 @@ range_snoc a zero = ap (λ x. x ∷ []) (plain a)
   where
     plain : (a : ℕ) → a ≡ a + 0
     plain a = omega arith
-range_snoc a (suc n) = ap (λ r. a ∷ r) (range_snoc (a + 1) n ∙ ap (λ x. range_with_len (a + 1) n ++ (x ∷ [])) (moved a n))
+range_snoc a (suc n) =
+    ap (λ r. a ∷ r) (range_snoc (a + 1) n ∙ ap (λ x. range_with_len (a + 1) n ++ (x ∷ [])) (moved a n))
   where
     moved : (a n : ℕ) → a + 1 + n ≡ a + suc n
     moved a n = omega arith
@@ -28,10 +32,12 @@ least : (f : ℕ → ℕ) (n : ℕ) → (j : ℕ) × (j < suc n) × ((i : ℕ) �
 least f zero = (0, omega arith, λ i h. let z : i ≡ 0 = omega arith in subst (λ k. f 0 ≤ f k) (sym z) (omega arith))
 least f (suc n) = step (least f n)
   where
-    step : (j : ℕ) × (j < suc n) × ((i : ℕ) → i < suc n → f j ≤ f i) → (j : ℕ) × (j < suc (suc n)) × ((i : ℕ) → i < suc (suc n) → f j ≤ f i)
+    step : (j : ℕ) × (j < suc n) × ((i : ℕ) → i < suc n → f j ≤ f i) →
+        (j : ℕ) × (j < suc (suc n)) × ((i : ℕ) → i < suc (suc n) → f j ≤ f i)
     step (j, lt, le) = settle (le_or_lt (f j) (f (suc n)))
       where
-        settle : (f j ≤ f (suc n)) ⊎ (f (suc n) < f j) → (j : ℕ) × (j < suc (suc n)) × ((i : ℕ) → i < suc (suc n) → f j ≤ f i)
+        settle : (f j ≤ f (suc n)) ⊎ (f (suc n) < f j) →
+            (j : ℕ) × (j < suc (suc n)) × ((i : ℕ) → i < suc (suc n) → f j ≤ f i)
         settle (inl h) = (j, omega arith, λ i hi. last i hi (le_or_lt i n))
           where
             last : (i : ℕ) → i < suc (suc n) → (i ≤ n) ⊎ (n < i) → f j ≤ f i
@@ -58,7 +64,8 @@ module _ (e L : ℕ) where
       ap (λ xs. count_by high (map (λ c. (r, c)) xs)) (range_snoc 1 p)
       ∙ ap (count_by high) (map_append {Y = Node} (λ c. (r, c)) (range_with_len 1 p) ((1 + p) ∷ []))
       ∙ sum_by-append (λ x. cond (high x) 1 0) (map (λ c. (r, c)) (range_with_len 1 p)) ((r, 1 + p) ∷ [])
-      ∙ ap (λ n. in_row r p + n) (ap (λ n. 0 + cond (nat_le L (r + (e - 1) * n)) 1 0) (less p) ∙ plain (cond (nat_le L (r + (e - 1) * p)) 1 0))
+      ∙ ap (λ n. in_row r p + n)
+      (ap (λ n. 0 + cond (nat_le L (r + (e - 1) * n)) 1 0) (less p) ∙ plain (cond (nat_le L (r + (e - 1) * p)) 1 0))
     where
       less : (p : ℕ) → 1 + p - 1 ≡ p
       less p = omega arith
@@ -72,7 +79,8 @@ module _ (e L : ℕ) where
       plain : (p : ℕ) → p ≡ p + 0
       plain p = omega arith
   row_low r p (suc d) =
-      let a : in_row r (suc (p + d)) ≡ in_row r (p + d) + cond (nat_le L (r + (e - 1) * (p + d))) 1 0 = row_suc r (p + d) in
+      let a : in_row r (suc (p + d)) ≡ in_row r (p + d) + cond (nat_le L (r + (e - 1) * (p + d))) 1 0 =
+      row_suc r (p + d) in
       let b : cond (nat_le L (r + (e - 1) * (p + d))) 1 0 ≤ 1 = at_most (nat_le L (r + (e - 1) * (p + d))) in
       subst (λ n. in_row r n ≤ in_row r p + suc d) (moved p d) (omega (arith, a, b, row_low r p d))
     where
@@ -92,8 +100,10 @@ module _ (e L : ℕ) where
       plain' p = omega arith
   row_high r p (suc d) h =
       let m : (e - 1) * p ≤ (e - 1) * (p + d) = mul-le-mul_left (e - 1) (omega arith) in
-      let a : in_row r (suc (p + d)) ≡ in_row r (p + d) + cond (nat_le L (r + (e - 1) * (p + d))) 1 0 = row_suc r (p + d) in
-      let b : ◌≡◌ {A = ℕ} (cond (nat_le L (r + (e - 1) * (p + d))) 1 0) 1 = ap (λ b. cond b 1 0) (le-leb L (r + (e - 1) * (p + d)) (omega arith)) in
+      let a : in_row r (suc (p + d)) ≡ in_row r (p + d) + cond (nat_le L (r + (e - 1) * (p + d))) 1 0 =
+      row_suc r (p + d) in
+      let b : ◌≡◌ {A = ℕ} (cond (nat_le L (r + (e - 1) * (p + d))) 1 0) 1 =
+      ap (λ b. cond b 1 0) (le-leb L (r + (e - 1) * (p + d)) (omega arith)) in
       subst (λ n. in_row r n ≡ in_row r p + suc d) (moved p d) (omega (arith, a, b, row_high r p d h))
     where
       moved : (p d : ℕ) → suc (p + d) ≡ p + suc d
@@ -104,24 +114,32 @@ module _ (e L : ℕ) where
   row_exchange r x y h = settle (le_or_lt x y)
     where
       settle : (x ≤ y) ⊎ (y < x) → x + in_row r y ≤ y + in_row r x
-      settle (inl l) = let a : in_row r y ≤ in_row r x + (y - x) = subst (λ n. in_row r n ≤ in_row r x + (y - x)) (back l) (row_low r x (y - x)) in omega (arith, a)
+      settle (inl l) =
+          let a : in_row r y ≤ in_row r x + (y - x) = subst (λ n. in_row r n ≤ in_row r x + (y - x)) (back l)
+          (row_low r x (y - x)) in
+          omega (arith, a)
         where
           back : x ≤ y → x + (y - x) ≡ y
           back h = omega arith
-      settle (inr l) = let a : in_row r x ≡ in_row r y + (x - y) = subst (λ n. in_row r n ≡ in_row r y + (x - y)) (back l) (row_high r y (x - y) h) in omega (arith, a)
+      settle (inr l) =
+          let a : in_row r x ≡ in_row r y + (x - y) = subst (λ n. in_row r n ≡ in_row r y + (x - y)) (back l)
+          (row_high r y (x - y) h) in
+          omega (arith, a)
         where
           back : y < x → y + (x - y) ≡ x
           back h = omega arith
 
   high-cons : (r p : ℕ) (parts : List ℕ) → high_from r (p ∷ parts) ≡ in_row r p + high_from (suc r) parts
   unfolding nodes_from
-  high-cons r p parts = sum_by-append (λ x. cond (high x) 1 0) (map (λ c. (r, c)) (from_one_to p)) (nodes_from (suc r) parts)
+  high-cons r p parts =
+      sum_by-append (λ x. cond (high x) 1 0) (map (λ c. (r, c)) (from_one_to p)) (nodes_from (suc r) parts)
 
   high-nil : (r : ℕ) → high_from r [] ≡ 0
   unfolding nodes_from
   high-nil r = refl
 
-  sums_exchange : (k r : ℕ) (xs ys : List ℕ) → ((j : ℕ) → j < k → L ≤ r + j + (e - 1) * slice_index ys j) → sum (take k xs) + high_from r (take k ys) ≤ sum (take k ys) + high_from r (take k xs)
+  sums_exchange : (k r : ℕ) (xs ys : List ℕ) → ((j : ℕ) → j < k → L ≤ r + j + (e - 1) * slice_index ys j) →
+      sum (take k xs) + high_from r (take k ys) ≤ sum (take k ys) + high_from r (take k xs)
   sums_exchange zero r xs ys f = omega arith
   sums_exchange (suc k) r [] [] f = omega arith
   sums_exchange (suc k) r [] (y ∷ ys) f =
@@ -155,7 +173,15 @@ module _ (e L : ℕ) where
   sums_exchange (suc k) r (x ∷ xs) (y ∷ ys) f =
       let a : x + in_row r y ≤ y + in_row r x = row_exchange r x y (first (f 0 (omega arith))) in
       let b = sums_exchange k (suc r) xs ys (λ j h. next j (f (suc j) (omega arith))) in
-      omega (arith, a, high-cons r x (take k xs), high-cons r y (take k ys), sum_by-cons (λ x. x) x (take k xs), sum_by-cons (λ x. x) y (take k ys), b)
+      omega (
+        arith,
+        a,
+        high-cons r x (take k xs),
+        high-cons r y (take k ys),
+        sum_by-cons (λ x. x) x (take k xs),
+        sum_by-cons (λ x. x) y (take k ys),
+        b,
+      )
     where
       first : L ≤ r + 0 + (e - 1) * y → L ≤ r + (e - 1) * y
       first h = omega arith
@@ -168,8 +194,14 @@ module _ (e L : ℕ) where
   first_rows (suc k) r [] = omega arith
   first_rows (suc k) r (x ∷ xs) = omega (arith, high-cons r x (take k xs), high-cons r x xs, first_rows k (suc r) xs)
 
-  no_further : (k r : ℕ) (ys : List ℕ) → ((j c : ℕ) → k ≤ j → 1 ≤ c → c ≤ slice_index ys j → r + j + (e - 1) * (c - 1) < L) → high_from r ys ≤ high_from r (take k ys)
-  no_further zero r ys f = let z : high_from r ys ≡ 0 = count_zero high (nodes_from r ys) (nodes_all (λ x. high x ≡ false) r ys (λ j c lo hi. not_high (r + j + (e - 1) * (c - 1)) (f j c (omega arith) lo hi))) in omega (arith, z)
+  no_further : (k r : ℕ) (ys : List ℕ) →
+      ((j c : ℕ) → k ≤ j → 1 ≤ c → c ≤ slice_index ys j → r + j + (e - 1) * (c - 1) < L) →
+      high_from r ys ≤ high_from r (take k ys)
+  no_further zero r ys f =
+      let z : high_from r ys ≡ 0 = count_zero high (nodes_from r ys)
+      (nodes_all (λ x. high x ≡ false) r ys
+      (λ j c lo hi. not_high (r + j + (e - 1) * (c - 1)) (f j c (omega arith) lo hi))) in
+      omega (arith, z)
     where
       not_high : (n : ℕ) → n < L → nat_le L n ≡ false
       not_high n h = elim (nat_le L n) as (λ b. nat_le L n ≡ b → b ≡ false) [
@@ -177,22 +209,32 @@ module _ (e L : ℕ) where
         | false ↦ λ _. refl
       ] refl
   no_further (suc k) r [] f = omega arith
-  no_further (suc k) r (y ∷ ys) f = omega (arith, high-cons r y (take k ys), high-cons r y ys, no_further k (suc r) ys (λ j c hj lo hi. next j c (f (suc j) c (omega arith) lo hi)))
+  no_further (suc k) r (y ∷ ys) f =
+      omega (
+        arith,
+        high-cons r y (take k ys),
+        high-cons r y ys,
+        no_further k (suc r) ys (λ j c hj lo hi. next j c (f (suc j) c (omega arith) lo hi)),
+      )
     where
       next : (j c : ℕ) → r + suc j + (e - 1) * (c - 1) < L → suc r + j + (e - 1) * (c - 1) < L
       next j c h = omega arith
 
-pub dominated : (e : ℕ) (mu lambda : List ℕ) → 2 ≤ e → IsPartition mu → is_regular e mu ≡ true → degree mu ≡ degree lambda → ((L : ℕ) → high_from e L 1 lambda ≤ high_from e L 1 mu) → Dominates mu lambda
+pub dominated : (e : ℕ) (mu lambda : List ℕ) → 2 ≤ e → IsPartition mu → is_regular e mu ≡ true →
+    degree mu ≡ degree lambda → ((L : ℕ) → high_from e L 1 lambda ≤ high_from e L 1 mu) → Dominates mu lambda
 dominated e mu lambda he pm reg deg counts = record { one_degree = deg; sums = λ k. at k }
   where
     at : (k : ℕ) → sum (take k lambda) ≤ sum (take k mu)
     at zero = omega arith
     at (suc k) = from (least (λ i. 1 + i + (e - 1) * slice_index mu i) k)
       where
-        from : (j : ℕ) × (j < suc k) × ((i : ℕ) → i < suc k → 1 + j + (e - 1) * slice_index mu j ≤ 1 + i + (e - 1) * slice_index mu i) → sum (take (suc k) lambda) ≤ sum (take (suc k) mu)
+        from : (j : ℕ) × (j < suc k) ×
+            ((i : ℕ) → i < suc k → 1 + j + (e - 1) * slice_index mu j ≤ 1 + i + (e - 1) * slice_index mu i) →
+            sum (take (suc k) lambda) ≤ sum (take (suc k) mu)
         from (j, lt, le) =
             let L : ℕ = 1 + j + (e - 1) * slice_index mu j in
             let a = sums_exchange e L (suc k) 1 lambda mu le in
             let b : high_from e L 1 (take (suc k) lambda) ≤ high_from e L 1 lambda = first_rows e L (suc k) 1 lambda in
-            let c = no_further e L (suc k) 1 mu (λ i c hi lo w. lower_earlier e mu he pm reg j i c (omega arith) lo w) in
+            let c = no_further e L (suc k) 1 mu
+            (λ i c hi lo w. lower_earlier e mu he pm reg j i c (omega arith) lo w) in
             omega (arith, a, b, c, counts L)

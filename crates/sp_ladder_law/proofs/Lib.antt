@@ -5,3 +5,4 @@ pub mod Truncated
 pub mod Exponent
 pub mod LadderLaw
 pub mod Contents
+pub mod Weights

@@ -1,5 +1,8 @@
--- What is reached by steps of descending ladders: no node has a later ladder than the last step, and from any ladder on there are not more nodes than the steps add.
-use Rattle.std.proofs.Common.{◌≡◌, ℕ, ◌+◌, ◌-◌, ◌*◌, ◌<◌, ◌≤◌, Bool, true, false, cond, List, [], ◌∷◌, map, refl, sym, ◌∙◌, ap, subst, arith, count_by, sum_by, nat_le, slice_index, ◌⊎◌, inl, inr, le-leb, leb-true}
+-- What is reached by steps of descending ladders: no node has a later ladder than the last step, and from any ladder on
+-- there are not more nodes than the steps add.
+use Rattle.std.proofs.Common.{◌≡◌, ℕ, ◌+◌, ◌-◌, ◌*◌, ◌<◌, ◌≤◌, Bool, true, false, cond, List, [], ◌∷◌, map, refl, sym}
+use Rattle.std.proofs.Common.{◌∙◌, ap, subst, arith, count_by, sum_by, nat_le, slice_index, ◌⊎◌, inl, inr, le-leb}
+use Rattle.std.proofs.Common.{leb-true}
 use Rattle.std.proofs.lemmas.List.Sums.{sum_by-cons, count_by-le-length}
 use Rattle.sp_defs.specs.Partition.{part, IsPartition}
 use Rattle.sp_defs.specs.Node.{Node, nodes, nodes_from, residue}
@@ -31,7 +34,8 @@ top_below l [] h d = h
 top_below l (k ∷ ls) h d = d.0
 
 pub left_ladder : (e r b : ℕ) → ladder_of e (r, b + 2) ≡ ladder_of e (r, b + 1) + (e - 1)
-left_ladder e r b = ap (λ n. r + (e - 1) * n) (less b) ∙ sides (e - 1) r b ∙ ap (λ n. r + (e - 1) * n + (e - 1)) (sym (less' b))
+left_ladder e r b =
+    ap (λ n. r + (e - 1) * n) (less b) ∙ sides (e - 1) r b ∙ ap (λ n. r + (e - 1) * n + (e - 1)) (sym (less' b))
   where
     less : (b : ℕ) → b + 2 - 1 ≡ b + 1
     less b = omega arith
@@ -44,7 +48,9 @@ left_ladder e r b = ap (λ n. r + (e - 1) * n) (less b) ∙ sides (e - 1) r b �
 
 module _ (e : ℕ) (he : 2 ≤ e) where
   -- a node that the last step added
-  new_low : (l below : ℕ) (before after : List ℕ) (m : ℕ) → below < l → IsPartition after → Move e (ladder_residue e l) m before after → Low e below before → (r c : ℕ) → 1 ≤ r → 1 ≤ c → c ≤ part after r → part before r < c → ladder_of e (r, c) ≤ l
+  new_low : (l below : ℕ) (before after : List ℕ) (m : ℕ) → below < l → IsPartition after →
+      Move e (ladder_residue e l) m before after → Low e below before → (r c : ℕ) → 1 ≤ r → 1 ≤ c → c ≤ part after r →
+      part before r < c → ladder_of e (r, c) ≤ l
   new_low l below before after m hl pa mv low r c hr hc w out = by_column (le_or_lt c 1)
     where
       same : ladder_residue e (ladder_of e (r, c)) ≡ ladder_residue e l
@@ -73,11 +79,19 @@ module _ (e : ℕ) (he : 2 ≤ e) where
                   back = omega arith
 
               above : (1 ≤ part before (r - 1)) ⊎ (part before (r - 1) < 1) → ladder_of e (r, c) ≤ l
-              above (inl is) = let f : ladder_of e (r - 1, 1) ≤ below = low (r - 1) 1 (omega arith) (omega arith) is in let g : r - 1 + (e - 1) * 0 ≡ r - 1 = no_more (r - 1) (e - 1) in omega (arith, flat)
+              above (inl is) =
+                  let f : ladder_of e (r - 1, 1) ≤ below = low (r - 1) 1 (omega arith) (omega arith) is in
+                  let g : r - 1 + (e - 1) * 0 ≡ r - 1 = no_more (r - 1) (e - 1) in omega (arith, flat)
                 where
                   no_more : (r d : ℕ) → r + d * 0 ≡ r
                   no_more r d = omega arith
-              above (inr out') = absurd (below_differs e (r - 1) c he (subst (λ n. residue e (n, c) ≡ residue e (r - 1, c)) (sym back) (mv.residues r c hr hc w out ∙ sym (mv.residues (r - 1) c (omega arith) hc (omega (arith, desc, w)) (omega arith)))))
+              above (inr out') =
+                  absurd
+                  (below_differs e (r - 1) c he
+                  (subst (λ n. residue e (n, c) ≡ residue e (r - 1, c)) (sym back)
+                  (mv.residues r c hr hc w out
+                  ∙ sym
+                  (mv.residues (r - 1) c (omega arith) hc (omega (arith, desc, w)) (omega arith)))))
                 where
                   back : r - 1 + 1 ≡ r
                   back = omega arith
@@ -92,28 +106,43 @@ module _ (e : ℕ) (he : 2 ≤ e) where
           beside : (c - 1 ≤ part before r) ⊎ (part before r < c - 1) → ladder_of e (r, c) ≤ l
           beside (inl is) =
               let f : ladder_of e (r, c - 1) ≤ below = low r (c - 1) hr (omega arith) is in
-              let g : ladder_of e (r, c) ≡ ladder_of e (r, c - 1) + (e - 1) = ap (λ n. ladder_of e (r, n)) c2 ∙ left_ladder e r (c - 2) ∙ ap (λ n. ladder_of e (r, n) + (e - 1)) c3 in
+              let g : ladder_of e (r, c) ≡ ladder_of e (r, c - 1) + (e - 1) =
+              ap (λ n. ladder_of e (r, n)) c2
+              ∙ left_ladder e r (c - 2)
+              ∙ ap (λ n. ladder_of e (r, n) + (e - 1)) c3 in
               ladder_step e (ladder_of e (r, c)) l he same (omega arith)
-          beside (inr out') = absurd (right_differs e r (c - 1) he (subst (λ n. residue e (r, n) ≡ residue e (r, c - 1)) (sym back) (mv.residues r c hr hc w out ∙ sym (mv.residues r (c - 1) hr (omega arith) (omega arith) out'))))
+          beside (inr out') =
+              absurd
+              (right_differs e r (c - 1) he
+              (subst (λ n. residue e (r, n) ≡ residue e (r, c - 1)) (sym back)
+              (mv.residues r c hr hc w out
+              ∙ sym (mv.residues r (c - 1) hr (omega arith) (omega arith) out'))))
             where
               back : c - 1 + 1 ≡ c
               back = omega arith
 
-  pub low_nodes : (m : ℕ → ℕ) (b : ℕ) (ls : List ℕ) (last : List ℕ) → Down b ls → IsPartition last → Reached e (map (step_of e m) ls) last → Low e (top ls) last
+  pub low_nodes : (m : ℕ → ℕ) (b : ℕ) (ls : List ℕ) (last : List ℕ) → Down b ls → IsPartition last →
+      Reached e (map (step_of e m) ls) last → Low e (top ls) last
   unfolding Reached
-  low_nodes m b [] last d pl is r c hr hc w = absurd (let z : c ≤ part [] r = subst (λ p. c ≤ part p r) is w in omega arith)
+  low_nodes m b [] last d pl is r c hr hc w =
+      absurd (let z : c ≤ part [] r = subst (λ p. c ≤ part p r) is w in omega arith)
   low_nodes m b (l ∷ ls) last (lb, l1, d) pl (before, pb, mv, rest) r c hr hc w =
       settle (le_or_lt c (part before r)) (low_nodes m l ls before d pb rest)
     where
       settle : (c ≤ part before r) ⊎ (part before r < c) → Low e (top ls) before → ladder_of e (r, c) ≤ l
-      settle (inl is) low = let f : ladder_of e (r, c) ≤ top ls = low r c hr hc is in let g : top ls < l = top_below l ls l1 d in omega arith
-      settle (inr out') low = new_low l (top ls) before last (m l) (top_below l ls l1 d) pl (move_facts e (ladder_residue e l) (m l) before last mv) low r c hr hc w out'
+      settle (inl is) low =
+          let f : ladder_of e (r, c) ≤ top ls = low r c hr hc is in
+          let g : top ls < l = top_below l ls l1 d in omega arith
+      settle (inr out') low = new_low l (top ls) before last (m l) (top_below l ls l1 d) pl
+          (move_facts e (ladder_residue e l) (m l) before last mv) low r c hr hc w out'
 
   -- how many nodes stand on ladders from L on
   abbrev pub high : ℕ → Node → Bool
   high L x = nat_le L (ladder_of e x)
 
-  pub count_high : (m : ℕ → ℕ) (L b : ℕ) (ls : List ℕ) (last : List ℕ) → Down b ls → IsPartition last → Reached e (map (step_of e m) ls) last → count_by (high L) (nodes last) ≤ sum_by (λ l. cond (nat_le L l) (m l) 0) ls
+  pub count_high : (m : ℕ → ℕ) (L b : ℕ) (ls : List ℕ) (last : List ℕ) → Down b ls → IsPartition last →
+      Reached e (map (step_of e m) ls) last →
+      count_by (high L) (nodes last) ≤ sum_by (λ l. cond (nat_le L l) (m l) 0) ls
   unfolding Reached nodes_from
   count_high m L b [] last d pl is = subst (λ p. count_by (high L) (nodes p) ≤ 0) (sym is) (omega arith)
   count_high m L b (l ∷ ls) last (lb, l1, d) pl (before, pb, mv, rest) =
@@ -125,19 +154,32 @@ module _ (e : ℕ) (he : 2 ≤ e) where
       low : Low e l last
       low = low_nodes m b (l ∷ ls) last (lb, l1, d) pl (before, pb, mv, rest)
 
-      sums : sum_by (λ l. cond (nat_le L l) (m l) 0) (l ∷ ls) ≡ cond (nat_le L l) (m l) 0 + sum_by (λ l. cond (nat_le L l) (m l) 0) ls
+      sums : sum_by (λ l. cond (nat_le L l) (m l) 0) (l ∷ ls)
+          ≡ cond (nat_le L l) (m l) 0 + sum_by (λ l. cond (nat_le L l) (m l) 0) ls
       sums = sum_by-cons (λ l. cond (nat_le L l) (m l) 0) l ls
 
-      settle : (L ≤ l) ⊎ (l < L) → count_by (high L) (nodes before) ≤ sum_by (λ l. cond (nat_le L l) (m l) 0) ls → count_by (high L) (nodes last) ≤ sum_by (λ l. cond (nat_le L l) (m l) 0) (l ∷ ls)
+      settle : (L ≤ l) ⊎ (l < L) → count_by (high L) (nodes before) ≤ sum_by (λ l. cond (nat_le L l) (m l) 0) ls →
+          count_by (high L) (nodes last) ≤ sum_by (λ l. cond (nat_le L l) (m l) 0) (l ∷ ls)
       settle (inl is) ih =
           let h : cond (nat_le L l) (m l) 0 ≡ m l = ap (λ b. cond b (m l) 0) (le-leb L l is) in
-          omega (arith, ih, h, sums, count_added (high L) before last pb facts.rows, count_by-le-length (high L) (added before last), facts.count)
+          omega (
+            arith,
+            ih,
+            h,
+            sums,
+            count_added (high L) before last pb facts.rows,
+            count_by-le-length (high L) (added before last),
+            facts.count,
+          )
       settle (inr out') ih =
-          let z : count_by (high L) (nodes last) ≡ 0 = count_zero (high L) (nodes last) (all_nodes (λ x. high L x ≡ false) last (λ r c hr hc w. not_high r c (low r c hr hc w))) in
+          let z : count_by (high L) (nodes last) ≡ 0 = count_zero (high L) (nodes last)
+          (all_nodes (λ x. high L x ≡ false) last (λ r c hr hc w. not_high r c (low r c hr hc w))) in
           omega (arith, z)
         where
           not_high : (r c : ℕ) → ladder_of e (r, c) ≤ l → high L (r, c) ≡ false
-          not_high r c h = elim (nat_le L (ladder_of e (r, c))) as (λ b. nat_le L (ladder_of e (r, c)) ≡ b → b ≡ false) [
-            | true ↦ λ e'. absurd (let k : L ≤ ladder_of e (r, c) = leb-true L (ladder_of e (r, c)) e' in omega arith)
-            | false ↦ λ _. refl
-          ] refl
+          not_high r c h =
+              elim (nat_le L (ladder_of e (r, c))) as (λ b. nat_le L (ladder_of e (r, c)) ≡ b → b ≡ false) [
+                | true ↦ λ e'.
+                    absurd (let k : L ≤ ladder_of e (r, c) = leb-true L (ladder_of e (r, c)) e' in omega arith)
+                | false ↦ λ _. refl
+              ] refl

@@ -1,2 +1,2 @@
-//! The plain way to all moves from a partition, and why it gives the divided power of a vector.
+//! Divided powers: sources, what a vector is determined by, weights, and the plain way to all moves from a partition.
 #![tactic(auto)]

@@ -1,11 +1,14 @@
 -- The nodes of a diagram.
-use Rattle.std.proofs.Common.{◌≡◌, ℕ, zero, suc, ◌+◌, ◌-◌, ◌<◌, ◌≤◌, min, Bool, true, false, cond, ◌&&◌, List, [], ◌∷◌, ◌++◌, map, filter, length, refl, sym, ◌∙◌, ap, ap₂, subst, arith, sum, nat_le, slice_index, le-leb, leb-true, leb-false}
+use Rattle.std.proofs.Common.{◌≡◌, ℕ, zero, suc, ◌+◌, ◌-◌, ◌<◌, ◌≤◌, min, Bool, true, false, cond, ◌&&◌, List, [], ◌∷◌}
+use Rattle.std.proofs.Common.{◌++◌, map, filter, length, refl, sym, ◌∙◌, ap, ap₂, subst, arith, sum, nat_le}
+use Rattle.std.proofs.Common.{slice_index, le-leb, leb-true, leb-false}
 use Rattle.std.specs.List.{AllByRecursion, range_with_len}
 use Rattle.std.proofs.lemmas.List.Sums.{sum_by-cons}
 use Rattle.std.proofs.Common.{length-append}
 use Rattle.sp_defs.specs.Partition.{part, IsPartition, from_one_to}
 use Rattle.sp_defs.specs.Node.{Node, in_diagram, nodes_from, nodes}
-use Rattle.sp_lists.proofs.Elements.{filter_append, and_split, and_join, all_append, all_left, all_right, all_map, map_all, range_all, range_at}
+use Rattle.sp_lists.proofs.Elements.{filter_append, and_split, and_join, all_append, all_left, all_right, all_map}
+use Rattle.sp_lists.proofs.Elements.{map_all, range_all, range_at}
 
 -- ---- a partition's tail, and its parts by recursion
 
@@ -23,13 +26,17 @@ IsPartition-head p parts h = h.positive 0 0 (omega arith)
 
 -- ---- rows
 
-row_all : (P : Node → Type 0) (r n : ℕ) → ((c : ℕ) → 1 ≤ c → c ≤ n → P (r, c)) → AllByRecursion P (map (λ c. (r, c)) (from_one_to n))
-row_all P r n f = all_map P (λ c. (r, c)) (from_one_to n) (range_all (λ c. P (r, c)) 1 n (λ c lo hi. f c lo (omega arith)))
+row_all : (P : Node → Type 0) (r n : ℕ) → ((c : ℕ) → 1 ≤ c → c ≤ n → P (r, c)) →
+    AllByRecursion P (map (λ c. (r, c)) (from_one_to n))
+row_all P r n f =
+    all_map P (λ c. (r, c)) (from_one_to n) (range_all (λ c. P (r, c)) 1 n (λ c lo hi. f c lo (omega arith)))
 
-row_at : (P : Node → Type 0) (r n : ℕ) → AllByRecursion P (map (λ c. (r, c)) (from_one_to n)) → (c : ℕ) → 1 ≤ c → c ≤ n → P (r, c)
+row_at : (P : Node → Type 0) (r n : ℕ) → AllByRecursion P (map (λ c. (r, c)) (from_one_to n)) → (c : ℕ) → 1 ≤ c →
+    c ≤ n → P (r, c)
 row_at P r n h c lo hi = range_at (λ c. P (r, c)) 1 n (map_all P (λ c. (r, c)) (from_one_to n) h) c lo (omega arith)
 
-pub nodes_all : (P : Node → Type 0) (r : ℕ) (parts : List ℕ) → ((k c : ℕ) → 1 ≤ c → c ≤ slice_index parts k → P (r + k, c)) → AllByRecursion P (nodes_from r parts)
+pub nodes_all : (P : Node → Type 0) (r : ℕ) (parts : List ℕ) →
+    ((k c : ℕ) → 1 ≤ c → c ≤ slice_index parts k → P (r + k, c)) → AllByRecursion P (nodes_from r parts)
 unfolding nodes_from
 nodes_all P r [] f = tt
 nodes_all P r (p ∷ parts) f =
@@ -43,14 +50,17 @@ nodes_all P r (p ∷ parts) f =
     moved : (r k : ℕ) → r + suc k ≡ suc r + k
     moved r k = omega arith
 
-pub nodes_at : (P : Node → Type 0) (r : ℕ) (parts : List ℕ) → AllByRecursion P (nodes_from r parts) → (k c : ℕ) → 1 ≤ c → c ≤ slice_index parts k → P (r + k, c)
+pub nodes_at : (P : Node → Type 0) (r : ℕ) (parts : List ℕ) → AllByRecursion P (nodes_from r parts) → (k c : ℕ) →
+    1 ≤ c → c ≤ slice_index parts k → P (r + k, c)
 unfolding nodes_from
 nodes_at P r [] h k c lo hi = absurd (omega arith)
-nodes_at P r (p ∷ parts) h zero c lo hi = subst (λ n. P (n, c)) (sym (plus_zero r)) (row_at P r p (all_left P (map (λ c. (r, c)) (from_one_to p)) (nodes_from (suc r) parts) h) c lo hi)
+nodes_at P r (p ∷ parts) h zero c lo hi = subst (λ n. P (n, c)) (sym (plus_zero r))
+    (row_at P r p (all_left P (map (λ c. (r, c)) (from_one_to p)) (nodes_from (suc r) parts) h) c lo hi)
   where
     plus_zero : (r : ℕ) → r + 0 ≡ r
     plus_zero r = omega arith
-nodes_at P r (p ∷ parts) h (suc k) c lo hi = subst (λ n. P (n, c)) (moved r k) (nodes_at P (suc r) parts (all_right P (map (λ c. (r, c)) (from_one_to p)) (nodes_from (suc r) parts) h) k c lo hi)
+nodes_at P r (p ∷ parts) h (suc k) c lo hi = subst (λ n. P (n, c)) (moved r k)
+    (nodes_at P (suc r) parts (all_right P (map (λ c. (r, c)) (from_one_to p)) (nodes_from (suc r) parts) h) k c lo hi)
   where
     moved : (r k : ℕ) → suc r + k ≡ r + suc k
     moved r k = omega arith
@@ -58,7 +68,8 @@ nodes_at P r (p ∷ parts) h (suc k) c lo hi = subst (λ n. P (n, c)) (moved r k
 -- ---- membership
 
 pub in_node : (parts : List ℕ) (r c : ℕ) → 1 ≤ r → 1 ≤ c → c ≤ part parts r → in_diagram parts (r, c) ≡ true
-in_node parts r c hr hc h = and_join (nat_le 1 r) (nat_le 1 c && nat_le c (part parts r)) (le-leb 1 r hr) (and_join (nat_le 1 c) (nat_le c (part parts r)) (le-leb 1 c hc) (le-leb c (part parts r) h))
+in_node parts r c hr hc h = and_join (nat_le 1 r) (nat_le 1 c && nat_le c (part parts r)) (le-leb 1 r hr)
+    (and_join (nat_le 1 c) (nat_le c (part parts r)) (le-leb 1 c hc) (le-leb c (part parts r) h))
 
 pub record Inside (parts : List ℕ) (r c : ℕ) : Type 0 where
   pub row : 1 ≤ r
@@ -73,30 +84,37 @@ node_in parts r c h =
 
 pub node_out : (parts : List ℕ) (r c : ℕ) → 1 ≤ r → 1 ≤ c → in_diagram parts (r, c) ≡ false → part parts r < c
 node_out parts r c hr hc h =
-    leb-false c (part parts r) (sym (ap₂ (λ a b. a && (b && nat_le c (part parts r))) (le-leb 1 r hr) (le-leb 1 c hc)) ∙ h)
+    leb-false c (part parts r)
+    (sym (ap₂ (λ a b. a && (b && nat_le c (part parts r))) (le-leb 1 r hr) (le-leb 1 c hc)) ∙ h)
 
 -- each node of a diagram, from a test of each in the list, and back
-pub at_node : (P : Node → Type 0) (parts : List ℕ) → AllByRecursion P (nodes parts) → (r c : ℕ) → 1 ≤ r → 1 ≤ c → c ≤ part parts r → P (r, c)
+pub at_node : (P : Node → Type 0) (parts : List ℕ) → AllByRecursion P (nodes parts) → (r c : ℕ) → 1 ≤ r → 1 ≤ c →
+    c ≤ part parts r → P (r, c)
 at_node P parts h r c hr hc w = subst (λ n. P (n, c)) (back r hr) (nodes_at P 1 parts h (r - 1) c hc w)
   where
     back : (r : ℕ) → 1 ≤ r → 1 + (r - 1) ≡ r
     back r h = omega arith
 
-pub all_nodes : (P : Node → Type 0) (parts : List ℕ) → ((r c : ℕ) → 1 ≤ r → 1 ≤ c → c ≤ part parts r → P (r, c)) → AllByRecursion P (nodes parts)
-all_nodes P parts f = nodes_all P 1 parts (λ k c lo hi. f (1 + k) c (omega arith) lo (subst (λ n. c ≤ slice_index parts n) (back k) hi))
+pub all_nodes : (P : Node → Type 0) (parts : List ℕ) → ((r c : ℕ) → 1 ≤ r → 1 ≤ c → c ≤ part parts r → P (r, c)) →
+    AllByRecursion P (nodes parts)
+all_nodes P parts f =
+    nodes_all P 1 parts (λ k c lo hi. f (1 + k) c (omega arith) lo (subst (λ n. c ≤ slice_index parts n) (back k) hi))
   where
     back : (k : ℕ) → k ≡ 1 + k - 1
     back k = omega arith
 
 -- ---- counting: the nodes of a part of the diagram
 
-filter_row : (t : Node → Bool) (r q a n : ℕ) → 1 ≤ a → ((c : ℕ) → a ≤ c → c < a + n → t (r, c) ≡ nat_le c q) → filter t (map (λ c. (r, c)) (range_with_len a n)) ≡ map (λ c. (r, c)) (range_with_len a (min n (q + 1 - a)))
+filter_row : (t : Node → Bool) (r q a n : ℕ) → 1 ≤ a → ((c : ℕ) → a ≤ c → c < a + n → t (r, c) ≡ nat_le c q) →
+    filter t (map (λ c. (r, c)) (range_with_len a n)) ≡ map (λ c. (r, c)) (range_with_len a (min n (q + 1 - a)))
 filter_row t r q a zero ha f = ap (λ m. map (λ c. (r, c)) (range_with_len a m)) (none q a)
   where
     none : (q a : ℕ) → 0 ≡ min 0 (q + 1 - a)
     none q a = omega arith
 filter_row t r q a (suc n) ha f =
-    elim (nat_le a q) as (λ b. nat_le a q ≡ b → filter t (map (λ c. (r, c)) (range_with_len a (suc n))) ≡ map (λ c. (r, c)) (range_with_len a (min (suc n) (q + 1 - a)))) [
+    elim (nat_le a q) as (λ b. nat_le a q ≡ b →
+    filter t (map (λ c. (r, c)) (range_with_len a (suc n)))
+    ≡ map (λ c. (r, c)) (range_with_len a (min (suc n) (q + 1 - a)))) [
       | true ↦ λ e. let le : a ≤ q = leb-true a q e in
           ap (λ b. cond b ((r, a) ∷ rest) rest) (f a (omega arith) (omega arith) ∙ e)
           ∙ ap (λ w. (r, a) ∷ w) (filter_row t r q (a + 1) n (omega arith) (λ c lo hi. f c (omega arith) (omega arith)))
@@ -120,14 +138,21 @@ filter_row t r q a (suc n) ha f =
     no_more' : (q a n : ℕ) → q < a → min (suc n) (q + 1 - a) ≡ 0
     no_more' q a n h = omega arith
 
-pub keep_filter : (t : Node → Bool) (r : ℕ) (inner outer : List ℕ) → ((k c : ℕ) → 1 ≤ c → c ≤ slice_index outer k → t (r + k, c) ≡ nat_le c (slice_index inner k)) → ((k : ℕ) → slice_index inner k ≤ slice_index outer k) → IsPartition inner → filter t (nodes_from r outer) ≡ nodes_from r inner
+pub keep_filter : (t : Node → Bool) (r : ℕ) (inner outer : List ℕ) →
+    ((k c : ℕ) → 1 ≤ c → c ≤ slice_index outer k → t (r + k, c) ≡ nat_le c (slice_index inner k)) →
+    ((k : ℕ) → slice_index inner k ≤ slice_index outer k) → IsPartition inner →
+    filter t (nodes_from r outer) ≡ nodes_from r inner
 unfolding nodes_from
 keep_filter t r [] [] f h pi = refl
 keep_filter t r (q ∷ inner) [] f h pi = let z : q ≤ 0 = h 0 in absurd (omega (arith, IsPartition-head q inner pi))
 keep_filter t r [] (p ∷ outer) f h pi =
     filter_append t (map (λ c. (r, c)) (from_one_to p)) (nodes_from (suc r) outer)
-    ∙ ap₂ (λ x y. x ++ y) (filter_row t r 0 1 p (omega arith) (λ c lo hi. subst (λ n. t (n, c) ≡ nat_le c 0) (plus_zero r) (f 0 c lo (omega arith))) ∙ ap (λ m. map (λ c. (r, c)) (range_with_len 1 m)) (empty p))
-    (keep_filter t (suc r) [] outer (λ k c lo hi. subst (λ n. t (n, c) ≡ nat_le c 0) (moved r k) (f (suc k) c lo hi)) (λ k. h (suc k)) pi)
+    ∙ ap₂ (λ x y. x ++ y)
+    (filter_row t r 0 1 p (omega arith)
+    (λ c lo hi. subst (λ n. t (n, c) ≡ nat_le c 0) (plus_zero r) (f 0 c lo (omega arith)))
+    ∙ ap (λ m. map (λ c. (r, c)) (range_with_len 1 m)) (empty p))
+    (keep_filter t (suc r) [] outer (λ k c lo hi. subst (λ n. t (n, c) ≡ nat_le c 0) (moved r k) (f (suc k) c lo hi))
+    (λ k. h (suc k)) pi)
   where
     plus_zero : (r : ℕ) → r + 0 ≡ r
     plus_zero r = omega arith
@@ -139,8 +164,13 @@ keep_filter t r [] (p ∷ outer) f h pi =
     empty p = omega arith
 keep_filter t r (q ∷ inner) (p ∷ outer) f h pi =
     filter_append t (map (λ c. (r, c)) (from_one_to p)) (nodes_from (suc r) outer)
-    ∙ ap₂ (λ x y. x ++ y) (filter_row t r q 1 p (omega arith) (λ c lo hi. subst (λ n. t (n, c) ≡ nat_le c q) (plus_zero r) (f 0 c lo (omega arith))) ∙ ap (λ m. map (λ c. (r, c)) (range_with_len 1 m)) (least q p (h 0)))
-    (keep_filter t (suc r) inner outer (λ k c lo hi. subst (λ n. t (n, c) ≡ nat_le c (slice_index inner k)) (moved r k) (f (suc k) c lo hi)) (λ k. h (suc k)) (IsPartition-tail q inner pi))
+    ∙ ap₂ (λ x y. x ++ y)
+    (filter_row t r q 1 p (omega arith)
+    (λ c lo hi. subst (λ n. t (n, c) ≡ nat_le c q) (plus_zero r) (f 0 c lo (omega arith)))
+    ∙ ap (λ m. map (λ c. (r, c)) (range_with_len 1 m)) (least q p (h 0)))
+    (keep_filter t (suc r) inner outer
+    (λ k c lo hi. subst (λ n. t (n, c) ≡ nat_le c (slice_index inner k)) (moved r k) (f (suc k) c lo hi))
+    (λ k. h (suc k)) (IsPartition-tail q inner pi))
   where
     plus_zero : (r : ℕ) → r + 0 ≡ r
     plus_zero r = omega arith
@@ -152,17 +182,22 @@ keep_filter t r (q ∷ inner) (p ∷ outer) f h pi =
     least q p h = omega arith
 
 -- two partitions with the same rows are one list
-pub same_rows : (xs ys : List ℕ) → IsPartition xs → IsPartition ys → ((k : ℕ) → slice_index xs k ≡ slice_index ys k) → xs ≡ ys
+pub same_rows : (xs ys : List ℕ) → IsPartition xs → IsPartition ys → ((k : ℕ) → slice_index xs k ≡ slice_index ys k) →
+    xs ≡ ys
 same_rows [] [] px py e = refl
 same_rows [] (y ∷ ys) px py e = absurd (let z : 0 ≡ y = e 0 in omega (arith, IsPartition-head y ys py))
 same_rows (x ∷ xs) [] px py e = absurd (let z : x ≡ 0 = e 0 in omega (arith, IsPartition-head x xs px))
-same_rows (x ∷ xs) (y ∷ ys) px py e = ap₂ (λ a b. a ∷ b) (e 0) (same_rows xs ys (IsPartition-tail x xs px) (IsPartition-tail y ys py) (λ k. e (suc k)))
+same_rows (x ∷ xs) (y ∷ ys) px py e =
+    ap₂ (λ a b. a ∷ b) (e 0) (same_rows xs ys (IsPartition-tail x xs px) (IsPartition-tail y ys py) (λ k. e (suc k)))
 
 -- the degree is the number of nodes
 pub degree-nodes : (r : ℕ) (parts : List ℕ) → length (nodes_from r parts) ≡ sum parts
 unfolding nodes_from
 degree-nodes r [] = refl
-degree-nodes r (p ∷ parts) = length-append (map (λ c. (r, c)) (from_one_to p)) (nodes_from (suc r) parts) ∙ ap₂ (λ x y. x + y) (row_length r 1 p) (degree-nodes (suc r) parts) ∙ sym (sum_by-cons (λ x. x) p parts)
+degree-nodes r (p ∷ parts) =
+    length-append (map (λ c. (r, c)) (from_one_to p)) (nodes_from (suc r) parts)
+    ∙ ap₂ (λ x y. x + y) (row_length r 1 p) (degree-nodes (suc r) parts)
+    ∙ sym (sum_by-cons (λ x. x) p parts)
   where
     row_length : (r a p : ℕ) → length {A = Node} (map (λ c. (r, c)) (range_with_len a p)) ≡ p
     row_length r a zero = refl

@@ -6,3 +6,4 @@ pub mod Residues
 pub mod Regular
 pub mod Grow
 pub mod Within
+pub mod Degrees

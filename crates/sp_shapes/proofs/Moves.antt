@@ -1,11 +1,14 @@
 -- What a move says of the two diagrams.
-use Rattle.std.proofs.Common.{◌≡◌, ℕ, suc, ◌+◌, ◌-◌, ◌<◌, ◌≤◌, Bool, true, false, not, ◌&&◌, List, [], ◌∷◌, filter, length, refl, sym, ◌∙◌, ap, ap₂, subst, arith, count_by, nat_le, nat_eq, slice_index, true≢false, ◌⊎◌, inl, inr, le-leb, eqb-true, eq-eqb}
+use Rattle.std.proofs.Common.{◌≡◌, ℕ, suc, ◌+◌, ◌-◌, ◌<◌, ◌≤◌, Bool, true, false, not, ◌&&◌, List, [], ◌∷◌, filter}
+use Rattle.std.proofs.Common.{length, refl, sym, ◌∙◌, ap, ap₂, subst, arith, count_by, nat_le, nat_eq, slice_index}
+use Rattle.std.proofs.Common.{true≢false, ◌⊎◌, inl, inr, le-leb, eqb-true, eq-eqb}
 use Rattle.std.specs.List.{AllByRecursion, list_all}
 use Rattle.std.proofs.lemmas.List.Sums.{length-filter}
 use Rattle.sp_defs.specs.Partition.{part, degree, IsPartition}
 use Rattle.sp_defs.specs.Node.{Node, in_diagram, nodes, residue}
 use Rattle.sp_defs.specs.Power.{is_move, added}
-use Rattle.sp_lists.proofs.Elements.{and_split, and_join, all_tests, tests_all, filter_all, all_filter, count_split, le_or_lt}
+use Rattle.sp_lists.proofs.Elements.{and_split, and_join, all_tests, tests_all, filter_all, all_filter, count_split}
+use Rattle.sp_lists.proofs.Elements.{le_or_lt}
 use Rattle.sp_shapes.proofs.Diagram.{in_node, node_in, at_node, all_nodes, keep_filter, degree-nodes}
 
 pub record Move (e i m : ℕ) (before after : List ℕ) : Type 0 where
@@ -26,34 +29,46 @@ out_node parts r c hr hc h =
 pub move_facts : (e i m : ℕ) (before after : List ℕ) → is_move e i m before after ≡ true → Move e i m before after
 unfolding is_move
 move_facts e i m before after h =
-    let p = and_split (list_all (in_diagram after) (nodes before)) (nat_eq (length (added before after)) m && list_all (λ x. nat_eq (residue e x) i) (added before after)) h in
-    let q = and_split (nat_eq (length (added before after)) m) (list_all (λ x. nat_eq (residue e x) i) (added before after)) p.1 in
+    let p = and_split (list_all (in_diagram after) (nodes before))
+    (nat_eq (length (added before after)) m && list_all (λ x. nat_eq (residue e x) i) (added before after)) h in
+    let q = and_split (nat_eq (length (added before after)) m)
+    (list_all (λ x. nat_eq (residue e x) i) (added before after)) p.1 in
     record {
       rows = λ k. row_of k (le_or_lt (slice_index before k) 0) (all_tests (in_diagram after) (nodes before) p.0);
       residues = λ r c hr hc w out. eqb-true (residue e (r, c)) i
           (at_node (λ x. not (in_diagram before x) ≡ true → nat_eq (residue e x) i ≡ true) after
-          (filter_all (λ x. nat_eq (residue e x) i ≡ true) (λ x. not (in_diagram before x)) (nodes after) (all_tests (λ x. nat_eq (residue e x) i) (added before after) q.1))
+          (filter_all (λ x. nat_eq (residue e x) i ≡ true) (λ x. not (in_diagram before x)) (nodes after)
+          (all_tests (λ x. nat_eq (residue e x) i) (added before after) q.1))
           r c hr hc w (not_false (in_diagram before (r, c)) (out_node before r c hr hc out)));
       count = eqb-true (length (added before after)) m q.0;
     }
   where
-    row_of : (k : ℕ) → (slice_index before k ≤ 0) ⊎ (0 < slice_index before k) → AllByRecursion (λ x. in_diagram after x ≡ true) (nodes before) → slice_index before k ≤ slice_index after k
+    row_of : (k : ℕ) → (slice_index before k ≤ 0) ⊎ (0 < slice_index before k) →
+        AllByRecursion (λ x. in_diagram after x ≡ true) (nodes before) → slice_index before k ≤ slice_index after k
     row_of k (inl z) h = omega arith
     row_of k (inr w) h =
         let back : suc k - 1 ≡ k = omega arith in
-        let v = node_in after (suc k) (slice_index before k) (at_node (λ x. in_diagram after x ≡ true) before h (suc k) (slice_index before k) (omega arith) w (subst (λ n. slice_index before k ≤ slice_index before n) (sym back) (omega arith))) in
+        let v = node_in after (suc k) (slice_index before k)
+        (at_node (λ x. in_diagram after x ≡ true) before h (suc k) (slice_index before k) (omega arith) w
+        (subst (λ n. slice_index before k ≤ slice_index before n) (sym back) (omega arith))) in
         subst (λ n. slice_index before k ≤ slice_index after n) back v.within
 
 -- the other way
 pub facts_move : (e i m : ℕ) (before after : List ℕ) → Move e i m before after → is_move e i m before after ≡ true
 unfolding is_move
 facts_move e i m before after h =
-    and_join (list_all (in_diagram after) (nodes before)) (nat_eq (length (added before after)) m && list_all (λ x. nat_eq (residue e x) i) (added before after))
-    (tests_all (in_diagram after) (nodes before) (all_nodes (λ x. in_diagram after x ≡ true) before (λ r c hr hc w. in_node after r c hr hc (let l : slice_index before (r - 1) ≤ slice_index after (r - 1) = h.rows (r - 1) in omega arith))))
+    and_join (list_all (in_diagram after) (nodes before))
+    (nat_eq (length (added before after)) m && list_all (λ x. nat_eq (residue e x) i) (added before after))
+    (tests_all (in_diagram after) (nodes before)
+    (all_nodes (λ x. in_diagram after x ≡ true) before
+    (λ r c hr hc w. in_node after r c hr hc
+    (let l : slice_index before (r - 1) ≤ slice_index after (r - 1) = h.rows (r - 1) in omega arith))))
     (and_join (nat_eq (length (added before after)) m) (list_all (λ x. nat_eq (residue e x) i) (added before after))
     (eq-eqb (length (added before after)) m h.count)
-    (tests_all (λ x. nat_eq (residue e x) i) (added before after) (all_filter (λ x. nat_eq (residue e x) i ≡ true) (λ x. not (in_diagram before x)) (nodes after)
-    (all_nodes (λ x. not (in_diagram before x) ≡ true → nat_eq (residue e x) i ≡ true) after (λ r c hr hc w out. eq-eqb (residue e (r, c)) i (h.residues r c hr hc w (outside r c hr hc out)))))))
+    (tests_all (λ x. nat_eq (residue e x) i) (added before after) (all_filter (λ x. nat_eq (residue e x) i ≡ true)
+    (λ x. not (in_diagram before x)) (nodes after)
+    (all_nodes (λ x. not (in_diagram before x) ≡ true → nat_eq (residue e x) i ≡ true) after
+    (λ r c hr hc w out. eq-eqb (residue e (r, c)) i (h.residues r c hr hc w (outside r c hr hc out)))))))
   where
     outside : (r c : ℕ) → 1 ≤ r → 1 ≤ c → not (in_diagram before (r, c)) ≡ true → part before r < c
     outside r c hr hc out = settle (le_or_lt c (part before r))
@@ -63,19 +78,26 @@ facts_move e i m before after h =
         settle (inr w) = w
 
 -- the smaller diagram's nodes, in the larger one
-pub inner_nodes : (inner outer : List ℕ) → IsPartition inner → ((k : ℕ) → slice_index inner k ≤ slice_index outer k) → filter (in_diagram inner) (nodes outer) ≡ nodes inner
+pub inner_nodes : (inner outer : List ℕ) → IsPartition inner → ((k : ℕ) → slice_index inner k ≤ slice_index outer k) →
+    filter (in_diagram inner) (nodes outer) ≡ nodes inner
 inner_nodes inner outer pi le = keep_filter (in_diagram inner) 1 inner outer (λ k c lo hi. same k c lo) le pi
   where
     same : (k c : ℕ) → 1 ≤ c → in_diagram inner (1 + k, c) ≡ nat_le c (slice_index inner k)
     same k c lo =
         let back : 1 + k - 1 ≡ k = omega arith in
-        ap₂ (λ a b. a && (b && nat_le c (part inner (1 + k)))) (le-leb 1 (1 + k) (omega arith)) (le-leb 1 c lo) ∙ ap (λ n. nat_le c (slice_index inner n)) back
+        ap₂ (λ a b. a && (b && nat_le c (part inner (1 + k)))) (le-leb 1 (1 + k) (omega arith)) (le-leb 1 c lo)
+        ∙ ap (λ n. nat_le c (slice_index inner n)) back
 
-pub count_added : (p : Node → Bool) (before after : List ℕ) → IsPartition before → ((k : ℕ) → slice_index before k ≤ slice_index after k) → count_by p (nodes after) ≡ count_by p (nodes before) + count_by p (added before after)
-count_added p before after pb le = count_split p (in_diagram before) (nodes after) ∙ ap (λ xs. count_by p xs + count_by p (added before after)) (inner_nodes before after pb le)
+pub count_added : (p : Node → Bool) (before after : List ℕ) → IsPartition before →
+    ((k : ℕ) → slice_index before k ≤ slice_index after k) →
+    count_by p (nodes after) ≡ count_by p (nodes before) + count_by p (added before after)
+count_added p before after pb le =
+    count_split p (in_diagram before) (nodes after)
+    ∙ ap (λ xs. count_by p xs + count_by p (added before after)) (inner_nodes before after pb le)
 
 -- the degree grows by the nodes added
-pub degree_added : (before after : List ℕ) → IsPartition before → ((k : ℕ) → slice_index before k ≤ slice_index after k) → degree after ≡ degree before + length (added before after)
+pub degree_added : (before after : List ℕ) → IsPartition before →
+    ((k : ℕ) → slice_index before k ≤ slice_index after k) → degree after ≡ degree before + length (added before after)
 degree_added before after pb le =
     sym (degree-nodes 1 after) ∙ all_count (nodes after) ∙ count_added (λ _. true) before after pb le
     ∙ ap₂ (λ x y. x + y) (sym (all_count (nodes before)) ∙ degree-nodes 1 before) (sym (all_count (added before after)))

@@ -1,5 +1,6 @@
 -- Residues and ladders agree modulo e.
-use Rattle.std.proofs.Common.{◌≡◌, ◌≢◌, ℕ, suc, ◌+◌, ◌-◌, ◌*◌, ◌/◌, ◌%◌, ◌<◌, ◌≤◌, sym, ◌∙◌, ap, ap₂, subst, arith, mul-le-mul_left, ◌⊎◌, inl, inr}
+use Rattle.std.proofs.Common.{◌≡◌, ◌≢◌, ℕ, suc, ◌+◌, ◌-◌, ◌*◌, ◌/◌, ◌%◌, ◌<◌, ◌≤◌, sym, ◌∙◌, ap, ap₂, subst, arith}
+use Rattle.std.proofs.Common.{mul-le-mul_left, ◌⊎◌, inl, inr}
 use native.Mathlib.Nat.{add-mul-mod_self_left, div-add-mod}
 use Rattle.sp_lists.proofs.Elements.{le_or_lt}
 use Rattle.sp_defs.specs.Node.{residue}
@@ -17,13 +18,15 @@ shift_changes e x s lo hi same = compare_quotients (x / e) ((x + s) / e) (div-ad
         below (inr l) = let m : e * suc q ≤ e * p = mul-le-mul_left e l in omega arith
 
 pub right_differs : (e r c : ℕ) → 2 ≤ e → residue e (r, c + 1) ≢ residue e (r, c)
-right_differs e r c h same = shift_changes e (c + e * r - r) 1 (omega arith) (omega arith) (ap (λ n. n % e) (moved e r c (mul-le-mul_left r h)) ∙ same)
+right_differs e r c h same = shift_changes e (c + e * r - r) 1 (omega arith) (omega arith)
+    (ap (λ n. n % e) (moved e r c (mul-le-mul_left r h)) ∙ same)
   where
     moved : (e r c : ℕ) → r * 2 ≤ r * e → c + e * r - r + 1 ≡ c + 1 + e * r - r
     moved e r c h = omega arith
 
 pub below_differs : (e r c : ℕ) → 2 ≤ e → residue e (r + 1, c) ≢ residue e (r, c)
-below_differs e r c h same = shift_changes e (c + e * r - r) (e - 1) (omega arith) (omega arith) (ap (λ n. n % e) (moved e r c h (mul-le-mul_left r h)) ∙ same)
+below_differs e r c h same = shift_changes e (c + e * r - r) (e - 1) (omega arith) (omega arith)
+    (ap (λ n. n % e) (moved e r c h (mul-le-mul_left r h)) ∙ same)
   where
     moved : (e r c : ℕ) → 2 ≤ e → r * 2 ≤ r * e → c + e * r - r + (e - 1) ≡ c + e * (r + 1) - (r + 1)
     moved e r c h k = omega arith
@@ -31,7 +34,8 @@ below_differs e r c h same = shift_changes e (c + e * r - r) (e - 1) (omega arit
 residue_ladder_at : (d r b : ℕ) → residue (2 + d) (r, 1 + b) ≡ ladder_residue (2 + d) (ladder_of (2 + d) (r, 1 + b))
 residue_ladder_at d r b =
     sym (add-mul-mod_self_left (1 + b + (2 + d) * r - r) (2 + d) (b * d))
-    ∙ ap (λ n. n % (2 + d)) (sides d r b ∙ ap (λ l. 1 + (2 + d) * l - l) (sym (ap₂ (λ x y. r + x * y) (less_one d) (less_one' b))))
+    ∙ ap (λ n. n % (2 + d))
+    (sides d r b ∙ ap (λ l. 1 + (2 + d) * l - l) (sym (ap₂ (λ x y. r + x * y) (less_one d) (less_one' b))))
   where
     less_one : (d : ℕ) → 2 + d - 1 ≡ 1 + d
     less_one d = omega arith
@@ -39,13 +43,15 @@ residue_ladder_at d r b =
     less_one' : (b : ℕ) → 1 + b - 1 ≡ b
     less_one' b = omega arith
 
-    sides : (d r b : ℕ) → 1 + b + (2 + d) * r - r + (2 + d) * (b * d) ≡ 1 + (2 + d) * (r + (1 + d) * b) - (r + (1 + d) * b)
+    sides : (d r b : ℕ) →
+        1 + b + (2 + d) * r - r + (2 + d) * (b * d) ≡ 1 + (2 + d) * (r + (1 + d) * b) - (r + (1 + d) * b)
     sides d r b = omega arith
 
 pub residue_ladder : (e r c : ℕ) → 2 ≤ e → 1 ≤ c → residue e (r, c) ≡ ladder_residue e (ladder_of e (r, c))
 residue_ladder e r c he hc =
     subst (λ x. residue x (r, c) ≡ ladder_residue x (ladder_of x (r, c))) (back_e e he)
-    (subst (λ y. residue (2 + (e - 2)) (r, y) ≡ ladder_residue (2 + (e - 2)) (ladder_of (2 + (e - 2)) (r, y))) (back_c c hc) (residue_ladder_at (e - 2) r (c - 1)))
+    (subst (λ y. residue (2 + (e - 2)) (r, y) ≡ ladder_residue (2 + (e - 2)) (ladder_of (2 + (e - 2)) (r, y)))
+    (back_c c hc) (residue_ladder_at (e - 2) r (c - 1)))
   where
     back_e : (e : ℕ) → 2 ≤ e → 2 + (e - 2) ≡ e
     back_e e h = omega arith
@@ -54,7 +60,8 @@ residue_ladder e r c he hc =
     back_c c h = omega arith
 
 -- two ladders of one residue that are less than e apart are equal or in order
-pub ladder_step : (e upper lower : ℕ) → 2 ≤ e → ladder_residue e upper ≡ ladder_residue e lower → upper < lower + e → upper ≤ lower
+pub ladder_step : (e upper lower : ℕ) → 2 ≤ e → ladder_residue e upper ≡ ladder_residue e lower → upper < lower + e →
+    upper ≤ lower
 ladder_step e upper lower he same h = settle (le_or_lt upper lower)
   where
     settle : (upper ≤ lower) ⊎ (lower < upper) → upper ≤ lower
@@ -63,7 +70,10 @@ ladder_step e upper lower he same h = settle (le_or_lt upper lower)
       where
         gap : (s : ℕ) → upper ≡ lower + s → 0 < s → s < e → ⊥
         gap s eq lo hi = shift_changes e (1 + e * upper - upper) s lo hi
-            (ap (λ n. n % e) (sides e upper lower s eq he (mul-le-mul_left lower he) (mul-le-mul_left s he)) ∙ add-mul-mod_self_left (1 + e * lower - lower) e s ∙ sym same)
+            (ap (λ n. n % e) (sides e upper lower s eq he (mul-le-mul_left lower he) (mul-le-mul_left s he))
+            ∙ add-mul-mod_self_left (1 + e * lower - lower) e s
+            ∙ sym same)
           where
-            sides : (e upper lower s : ℕ) → upper ≡ lower + s → 2 ≤ e → lower * 2 ≤ lower * e → s * 2 ≤ s * e → 1 + e * upper - upper + s ≡ 1 + e * lower - lower + e * s
+            sides : (e upper lower s : ℕ) → upper ≡ lower + s → 2 ≤ e → lower * 2 ≤ lower * e → s * 2 ≤ s * e →
+                1 + e * upper - upper + s ≡ 1 + e * lower - lower + e * s
             sides e upper lower s eq h k m = let p : e * upper ≡ e * (lower + s) = ap (λ n. e * n) eq in omega arith

@@ -1,0 +1,6 @@
+pub mod Partitions
+pub mod LadderVectors
+pub mod Rows
+pub mod Signatures
+pub mod Abacus
+pub mod Texts

@@ -1,0 +1,2 @@
+//! Worked examples: the definitions, computed.
+#![tactic(auto)]
