@@ -25,13 +25,16 @@ heads rs = map (λ run. run.0) rs
 
 -- ---- what is not earlier is the same or later
 
+pub earlier_than : (x y : List ℕ) → compare x y ≡ Greater → IsEarlier y x
+earlier_than x y h = nat_list_cmp_total.antisymm y x ∙ ap ordering_reverse h
+
 same_or_later : (x y : List ℕ) → is_lt (compare y x) ≡ false → (x ≡ y) ⊎ IsEarlier x y
 same_or_later x y h = by_order (compare y x) refl
   where
     by_order : (o : Ordering) → compare y x ≡ o → (x ≡ y) ⊎ IsEarlier x y
     by_order Less is = absurd (true≢false (sym (ap is_lt is) ∙ h))
     by_order Equal is = inl (sym (same_lists y x is))
-    by_order Greater is = inr (nat_list_cmp_total.antisymm x y ∙ ap ordering_reverse is)
+    by_order Greater is = inr (earlier_than y x is)
 
 not_at : (nu : List ℕ) (ts : List Arrival) → AllByRecursion (λ t. IsEarlier nu t.0) ts → filter (is_at nu) ts ≡ []
 not_at nu [] h = refl
