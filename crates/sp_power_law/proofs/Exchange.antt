@@ -36,7 +36,7 @@ filter-map t f (x ∷ xs) =
       | false ↦ filter-map t f xs
     ]
 
-at_length : {X : Type 0} (front : List X) (x : X) (back : List X) (d : X) → slice_index_or (front ++ (x ∷ back)) (length front) d ≡ x
+pub at_length : {X : Type 0} (front : List X) (x : X) (back : List X) (d : X) → slice_index_or (front ++ (x ∷ back)) (length front) d ≡ x
 at_length [] x back d = refl
 at_length (y ∷ front) x back d = at_length front x back d
 
