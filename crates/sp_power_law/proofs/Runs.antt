@@ -69,7 +69,8 @@ joined-heads : (P : List ℕ → Type 0) (t : Arrival) (rs : List Run) → P t.0
     AllByRecursion (λ run. P run.0) (joined t rs)
 joined-heads P t [] h hs = (h, tt)
 joined-heads P t (run ∷ rs) h (hr, hs) =
-    elim (is_eq (compare t.0 run.0)) as (λ b. AllByRecursion (λ run. P run.0) (cond b ((run.0, t ∷ run.1) ∷ rs) ((t.0, t ∷ []) ∷ run ∷ rs))) [
+    elim (is_eq (compare t.0 run.0)) as (λ b. AllByRecursion (λ run. P run.0)
+        (cond b ((run.0, t ∷ run.1) ∷ rs) ((t.0, t ∷ []) ∷ run ∷ rs))) [
       | true ↦ (hr, hs)
       | false ↦ (h, (hr, hs))
     ]
@@ -89,16 +90,20 @@ pub record AreRuns (ts : List Arrival) (rs : List Run) : Type 0 where
 -- A run of another partition has nothing of t.
 kept_run : (t : Arrival) (ts : List Arrival) (run : Run) → IsEarlier t.0 run.0 → run.1 ≡ filter (is_at run.0) ts →
     run.1 ≡ filter (is_at run.0) (t ∷ ts)
-kept_run t ts run early is = is ∙ ap (λ o. cond (is_eq o) (t ∷ filter (is_at run.0) ts) (filter (is_at run.0) ts)) (sym early)
+kept_run t ts run early is = is
+    ∙ ap (λ o. cond (is_eq o) (t ∷ filter (is_at run.0) ts) (filter (is_at run.0) ts)) (sym early)
 
 kept_runs : (t : Arrival) (ts : List Arrival) (rs : List Run) → AllByRecursion (λ run. IsEarlier t.0 run.0) rs →
     AllByRecursion (λ run. run.1 ≡ filter (is_at run.0) ts) rs →
     AllByRecursion (λ run. run.1 ≡ filter (is_at run.0) (t ∷ ts)) rs
 kept_runs t ts rs early is =
-    all_mono (λ run. IsEarlier t.0 run.0 × (run.1 ≡ filter (is_at run.0) ts)) (λ run. run.1 ≡ filter (is_at run.0) (t ∷ ts)) rs
-    (λ run h. kept_run t ts run h.0 h.1) (all_both (λ run. IsEarlier t.0 run.0) (λ run. run.1 ≡ filter (is_at run.0) ts) rs early is)
+    all_mono (λ run. IsEarlier t.0 run.0 × (run.1 ≡ filter (is_at run.0) ts))
+        (λ run. run.1 ≡ filter (is_at run.0) (t ∷ ts)) rs
+    (λ run h. kept_run t ts run h.0 h.1)
+        (all_both (λ run. IsEarlier t.0 run.0) (λ run. run.1 ≡ filter (is_at run.0) ts) rs early is)
 
-taken : (t : Arrival) (nu : List ℕ) (ts : List Arrival) → t.0 ≡ nu → t ∷ filter (is_at nu) ts ≡ filter (is_at nu) (t ∷ ts)
+taken : (t : Arrival) (nu : List ℕ) (ts : List Arrival) → t.0 ≡ nu →
+    t ∷ filter (is_at nu) ts ≡ filter (is_at nu) (t ∷ ts)
 taken t nu ts same =
     ap (λ o. cond (is_eq o) (t ∷ filter (is_at nu) ts) (filter (is_at nu) ts))
     (sym (subst (λ l. compare l nu ≡ Equal) (sym same) (equal_self nu)))
@@ -123,7 +128,8 @@ one_more t u ts run rs ((after, _), (later, _)) at h = by_order (compare t.0 run
       exact = (
         ap (λ l. t ∷ l) h.exact.0 ∙ taken t run.0 (u ∷ ts) same,
         kept_runs t (u ∷ ts) rs
-            (subst (λ l. AllByRecursion (λ run. IsEarlier l run.0) rs) (sym same) (from_heads (IsEarlier run.0) rs h.ascending.0)) h.exact.1,
+            (subst (λ l. AllByRecursion (λ run. IsEarlier l run.0) rs) (sym same)
+                (from_heads (IsEarlier run.0) rs h.ascending.0)) h.exact.1,
       );
     }
       where
@@ -146,7 +152,8 @@ one_more t u ts run rs ((after, _), (later, _)) at h = by_order (compare t.0 run
         early_u = subst (λ l. IsEarlier t.0 l) at is
 
         early_rest : AllByRecursion (λ v. IsEarlier t.0 v.0) ts
-        early_rest = all_mono (λ v. is_lt (compare v.0 u.0) ≡ false) (λ v. IsEarlier t.0 v.0) ts (λ v e. further v (same_or_later u.0 v.0 e)) later
+        early_rest = all_mono (λ v. is_lt (compare v.0 u.0) ≡ false) (λ v. IsEarlier t.0 v.0) ts
+            (λ v e. further v (same_or_later u.0 v.0 e)) later
           where
             further : (v : Arrival) → (u.0 ≡ v.0) ⊎ IsEarlier u.0 v.0 → IsEarlier t.0 v.0
             further v (inl same) = subst (λ l. IsEarlier t.0 l) same early_u
@@ -154,7 +161,8 @@ one_more t u ts run rs ((after, _), (later, _)) at h = by_order (compare t.0 run
     by_order Greater is = absurd (clash (same_or_later t.0 u.0 after))
       where
         clash : (t.0 ≡ u.0) ⊎ IsEarlier t.0 u.0 → ⊥
-        clash (inl same) = let k : Greater ≡ Equal = sym is ∙ subst (λ l. compare t.0 l ≡ Equal) (same ∙ sym at) (equal_self t.0) in cc
+        clash (inl same) = let k : Greater ≡ Equal = sym is
+            ∙ subst (λ l. compare t.0 l ≡ Equal) (same ∙ sym at) (equal_self t.0) in cc
         clash (inr e) = let k : Greater ≡ Less = sym is ∙ subst (λ l. compare t.0 l ≡ Less) (sym at) e in cc
 
 pub runs-are : (ts : List Arrival) → InOrder ts → AreRuns ts (runs ts)
@@ -171,7 +179,8 @@ runs-are (t ∷ u ∷ ts) h =
 joined-occurs : (nu : List ℕ) (t : Arrival) (rs : List Run) → Occurs nu (heads rs) → Occurs nu (heads (joined t rs))
 joined-occurs nu t [] h = absurd h
 joined-occurs nu t (run ∷ rs) h =
-    elim (is_eq (compare t.0 run.0)) as (λ b. Occurs nu (heads (cond b ((run.0, t ∷ run.1) ∷ rs) ((t.0, t ∷ []) ∷ run ∷ rs)))) [
+    elim (is_eq (compare t.0 run.0)) as (λ b. Occurs nu
+        (heads (cond b ((run.0, t ∷ run.1) ∷ rs) ((t.0, t ∷ []) ∷ run ∷ rs)))) [
       | true ↦ h
       | false ↦ inr h
     ]
@@ -181,7 +190,8 @@ unfolding runs
 has_run nu [] = inr refl
 has_run nu (t ∷ ts) = by_order (compare t.0 nu) refl (has_run nu ts)
   where
-    further : Occurs nu (heads (runs ts)) ⊎ (filter (is_at nu) ts ≡ []) → Occurs nu (heads (joined t (runs ts))) ⊎ (filter (is_at nu) ts ≡ [])
+    further : Occurs nu (heads (runs ts)) ⊎ (filter (is_at nu) ts ≡ []) →
+        Occurs nu (heads (joined t (runs ts))) ⊎ (filter (is_at nu) ts ≡ [])
     further (inl h) = inl (joined-occurs nu t (runs ts) h)
     further (inr h) = inr h
 

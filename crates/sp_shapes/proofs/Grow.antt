@@ -1,5 +1,6 @@
 -- One node more at the end of a row.
-use Rattle.std.proofs.Common.{◌≡◌, ◌≢◌, ℕ, zero, suc, ◌+◌, ◌-◌, ◌<◌, ◌≤◌, List, [], ◌∷◌, ◌++◌, map, length, refl, sym, ◌∙◌, ap, ap₂, subst, arith, sum, slice_index, ◌⊎◌, inl, inr}
+use Rattle.std.proofs.Common.{◌≡◌, ◌≢◌, ℕ, zero, suc, ◌+◌, ◌-◌, ◌<◌, ◌≤◌, List, [], ◌∷◌, ◌++◌, map, length, refl, sym}
+use Rattle.std.proofs.Common.{◌∙◌, ap, ap₂, subst, arith, sum, slice_index, ◌⊎◌, inl, inr}
 use Rattle.std.specs.List.{range_with_len}
 use Rattle.std.proofs.Common.{append_assoc}
 use Rattle.std.proofs.lemmas.List.Sums.{sum_by-cons}
@@ -16,7 +17,9 @@ pub record Room (xs : List ℕ) (k : ℕ) : Type 0 where
   pub less : 0 < k → slice_index xs k < slice_index xs (k - 1)
 
 room-tail : (x : ℕ) (xs : List ℕ) (k : ℕ) → Room (x ∷ xs) (suc k) → Room xs k
-room-tail x xs k h = record { there = omega (arith, h.there); less = λ w. subst (λ n. slice_index xs k < n) (moved k w) (h.less (omega arith)) }
+room-tail x xs k h =
+    record { there = omega (arith, h.there); less =
+    λ w. subst (λ n. slice_index xs k < n) (moved k w) (h.less (omega arith)) }
   where
     moved : (k : ℕ) → 0 < k → slice_index (x ∷ xs) (suc k - 1) ≡ slice_index xs (k - 1)
     moved k w = let e : suc k - 1 ≡ suc (k - 1) = omega arith in ap (slice_index (x ∷ xs)) e
@@ -46,15 +49,19 @@ IsPartition-grow (x ∷ xs) zero h r =
     let d : slice_index xs 0 ≤ x = h.descending 0 in
     IsPartition-cons (suc x) xs (omega arith) (omega (arith, d)) (IsPartition-tail x xs h)
 IsPartition-grow (x ∷ xs) (suc k) h r =
-    IsPartition-cons x (grow k xs) (IsPartition-head x xs h) (low (le_or_lt k 0)) (IsPartition-grow xs k (IsPartition-tail x xs h) (room-tail x xs k r))
+    IsPartition-cons x (grow k xs) (IsPartition-head x xs h) (low (le_or_lt k 0))
+        (IsPartition-grow xs k (IsPartition-tail x xs h) (room-tail x xs k r))
   where
     d : slice_index xs 0 ≤ x
     d = h.descending 0
 
     low : (k ≤ 0) ⊎ (0 < k) → slice_index (grow k xs) 0 ≤ x
     low (inl z) =
-        let s : slice_index (grow k xs) 0 ≡ slice_index xs 0 + 1 = subst (λ n. slice_index (grow k xs) n ≡ slice_index xs n + 1) k0 (grow_same xs k (omega (arith, r.there))) in
-        let at_k : slice_index xs k < slice_index (x ∷ xs) k = subst (λ m. slice_index xs k < slice_index (x ∷ xs) m) (one k) (r.less (omega arith)) in
+        let s : slice_index (grow k xs) 0 ≡ slice_index xs 0 + 1 =
+            subst (λ n. slice_index (grow k xs) n ≡ slice_index xs n + 1) k0
+            (grow_same xs k (omega (arith, r.there))) in
+        let at_k : slice_index xs k < slice_index (x ∷ xs) k =
+            subst (λ m. slice_index xs k < slice_index (x ∷ xs) m) (one k) (r.less (omega arith)) in
         let w : slice_index xs 0 < x = subst (λ n. slice_index xs n < slice_index (x ∷ xs) n) k0 at_k in
         omega (arith, s, w)
       where
@@ -83,19 +90,25 @@ pub record OneMore (x : Node) (smaller larger : List Node) : Type 0 where
   pub smaller_is : smaller ≡ front ++ back
   pub larger_is : larger ≡ front ++ (x ∷ back)
 
-row_longer : (r a p : ℕ) → ◌≡◌ {A = List Node} (map (λ c. (r, c)) (range_with_len a (suc p))) (map (λ c. (r, c)) (range_with_len a p) ++ ((r, a + p) ∷ []))
+row_longer : (r a p : ℕ) →
+    ◌≡◌ {A = List Node} (map (λ c. (r, c)) (range_with_len a (suc p)))
+    (map (λ c. (r, c)) (range_with_len a p) ++ ((r, a + p) ∷ []))
 row_longer r a zero = ap (λ c. (r, c) ∷ []) (plain a)
   where
     plain : (a : ℕ) → a ≡ a + 0
     plain a = omega arith
-row_longer r a (suc p) = ap (λ l. (r, a) ∷ l) (row_longer r (a + 1) p ∙ ap (λ c. map (λ c. (r, c)) (range_with_len (a + 1) p) ++ ((r, c) ∷ [])) (moved a p))
+row_longer r a (suc p) =
+    ap (λ l. (r, a) ∷ l)
+    (row_longer r (a + 1) p ∙ ap (λ c. map (λ c. (r, c)) (range_with_len (a + 1) p) ++ ((r, c) ∷ [])) (moved a p))
   where
     moved : (a p : ℕ) → a + 1 + p ≡ a + suc p
     moved a p = omega arith
 
-pub nodes-grow : (r : ℕ) (xs : List ℕ) (k : ℕ) → k ≤ length xs → OneMore (r + k, slice_index xs k + 1) (nodes_from r xs) (nodes_from r (grow k xs))
+pub nodes-grow : (r : ℕ) (xs : List ℕ) (k : ℕ) → k ≤ length xs →
+    OneMore (r + k, slice_index xs k + 1) (nodes_from r xs) (nodes_from r (grow k xs))
 unfolding grow nodes_from
-nodes-grow r [] zero h = record { front = []; back = []; smaller_is = refl; larger_is = ap (λ n. (n, 1) ∷ []) (plain r) }
+nodes-grow r [] zero h =
+    record { front = []; back = []; smaller_is = refl; larger_is = ap (λ n. (n, 1) ∷ []) (plain r) }
   where
     plain : (r : ℕ) → r ≡ r + 0
     plain r = omega arith
@@ -126,7 +139,9 @@ nodes-grow r (x ∷ xs) (suc k) h = further (nodes-grow (suc r) xs k (omega arit
     moved : (r k : ℕ) → suc r + k ≡ r + suc k
     moved r k = omega arith
 
-    further : OneMore (suc r + k, slice_index xs k + 1) (nodes_from (suc r) xs) (nodes_from (suc r) (grow k xs)) → OneMore (r + suc k, slice_index xs k + 1) (row ++ nodes_from (suc r) xs) (row ++ nodes_from (suc r) (grow k xs))
+    further : OneMore (suc r + k, slice_index xs k + 1) (nodes_from (suc r) xs) (nodes_from (suc r) (grow k xs)) →
+        OneMore (r + suc k, slice_index xs k + 1) (row ++ nodes_from (suc r) xs)
+        (row ++ nodes_from (suc r) (grow k xs))
     further o = record {
       front = row ++ o.front;
       back = o.back;

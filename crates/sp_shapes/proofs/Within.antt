@@ -10,7 +10,8 @@ rows_sum (x ∷ xs) [] f = omega (arith, sum_by-cons (λ n. n) x xs, f 0, rows_s
 rows_sum (x ∷ xs) (y ∷ ys) f =
     omega (arith, sum_by-cons (λ n. n) x xs, sum_by-cons (λ n. n) y ys, f 0, rows_sum xs ys (λ k. f (suc k)))
 
-rows_equal : (inner outer : List ℕ) → ((k : ℕ) → slice_index inner k ≤ slice_index outer k) → sum outer ≤ sum inner → (k : ℕ) → slice_index inner k ≡ slice_index outer k
+rows_equal : (inner outer : List ℕ) → ((k : ℕ) → slice_index inner k ≤ slice_index outer k) → sum outer ≤ sum inner →
+    (k : ℕ) → slice_index inner k ≡ slice_index outer k
 rows_equal xs [] f h k = omega (arith, f k)
 rows_equal [] (y ∷ ys) f h zero = omega (arith, sum_by-cons (λ n. n) y ys)
 rows_equal [] (y ∷ ys) f h (suc k) = rows_equal [] ys (λ k. f (suc k)) (omega (arith, sum_by-cons (λ n. n) y ys)) k
@@ -19,5 +20,6 @@ rows_equal (x ∷ xs) (y ∷ ys) f h zero =
 rows_equal (x ∷ xs) (y ∷ ys) f h (suc k) =
     rows_equal xs ys (λ k. f (suc k)) (omega (arith, f 0, sum_by-cons (λ n. n) x xs, sum_by-cons (λ n. n) y ys)) k
 
-pub same_within : (inner outer : List ℕ) → IsPartition inner → IsPartition outer → ((k : ℕ) → slice_index inner k ≤ slice_index outer k) → degree outer ≤ degree inner → inner ≡ outer
+pub same_within : (inner outer : List ℕ) → IsPartition inner → IsPartition outer →
+    ((k : ℕ) → slice_index inner k ≤ slice_index outer k) → degree outer ≤ degree inner → inner ≡ outer
 same_within inner outer pi po f h = same_rows inner outer pi po (rows_equal inner outer f h)
