@@ -7,3 +7,4 @@ pub mod Positive
 pub mod PositiveSizes
 pub mod Sizes
 pub mod Places
+pub mod Reordered

@@ -1,2 +1,3 @@
 pub mod Elements
+pub mod Counts
 pub mod Greatest
