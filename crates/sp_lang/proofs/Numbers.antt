@@ -39,7 +39,7 @@ small_number-long word long = by_test (is_text (decimal (digits_value word)) wor
     by_value same (inl low) =
         let text : decimal (digits_value word) ≡ word = (bytes_decides (decimal (digits_value word)) word).0 same in
         let few : length (decimal (digits_value word)) ≤ 3 =
-            length-decimal-le 3 (digits_value word) (omega arith) (omega arith) (omega arith) in
+        length-decimal-le 3 (digits_value word) (omega arith) (omega arith) (omega arith) in
         absurd (omega (arith, ap length text, few, long))
 
     by_test : (t : Bool) → is_text (decimal (digits_value word)) word ≡ t → small (number_of word) ≡ None

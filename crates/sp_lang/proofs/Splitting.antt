@@ -24,9 +24,11 @@ no_space : (b : ℕ) (bs : List ℕ) (k : ℕ) → words (b ∷ bs) ≡ onto_fir
 no_space b bs k is (inl split) =
     let one_more : 1 + k ≡ suc k = omega arith in
     let after : 1 + k + 1 ≡ suc (k + 1) = omega arith in
-    inl (omega (arith, split.0),
+    inl (
+      omega (arith, split.0),
       is ∙ ap (onto_first b) split.1
-      ∙ ap₂ (λ m n. take m (b ∷ bs) ∷ words (drop n (b ∷ bs))) (sym one_more) (sym after))
+          ∙ ap₂ (λ m n. take m (b ∷ bs) ∷ words (drop n (b ∷ bs))) (sym one_more) (sym after),
+    )
 no_space b bs k is (inr whole) = inr (omega (arith, whole.0), is ∙ ap (onto_first b) whole.1)
 
 pub words_cases : (text : List ℕ) → SplitsAt text (before_space text) ⊎ IsWord text (before_space text)

@@ -40,9 +40,9 @@ with_label command (Some (e, mu)) = Some (command e mu)
 abbrev pub command_from : List (List ℕ) → Option Command
 command_from [] = None
 command_from (first ∷ rest) =
-    cond (is_text (codes "induce") first) (induce_from rest)
-    (cond (is_text (codes "ladders") first) (with_label Ladders (label_from rest))
-    (cond (is_text (codes "ladder") first) (with_label Ladder (label_from rest)) None))
+    cond (is_text first (codes "induce")) (induce_from rest)
+    (cond (is_text first (codes "ladders")) (with_label Ladders (label_from rest))
+    (cond (is_text first (codes "ladder")) (with_label Ladder (label_from rest)) None))
 
 -- The command that a line says, if it says one.
 unfoldable pub command_of : List ℕ → Option Command

@@ -1,6 +1,7 @@
 // A line as a command.
-ghost use Rattle.std.specs.Prelude.{◌≡◌, ◌×◌};
-ghost use Rattle.sp_lang.specs.Built.{command_of, induce_from, induce_of, label_from, label_of};
+ghost use Rattle.std.specs.Prelude.{◌≡◌};
+ghost use Rattle.sp_lang.specs.Built.{command_of, is_e, induce_from, induce_of, label_from, label_of, with_label};
+ghost use Rattle.sp_lang.specs.declared.command.Command.TheVariants.{Ladder, Ladders};
 ghost use Rattle.sp_lang.specs.Words.{partition_of, words};
 
 use crate::Command;
@@ -15,18 +16,12 @@ pub fn read_command(line: &[u8]) -> Option<Command>
     let Some((first, rest)) = split_word(line) else {
         return None;
     };
-    if first == b"induce" {
+    if first == b"induce".as_slice() {
         induce(rest)
-    } else if first == b"ladders" {
-        match label(rest) {
-            Some((e, mu)) => Some(Command::Ladders(e, mu)),
-            None => None,
-        }
-    } else if first == b"ladder" {
-        match label(rest) {
-            Some((e, mu)) => Some(Command::Ladder(e, mu)),
-            None => None,
-        }
+    } else if first == b"ladders".as_slice() {
+        ladders(rest)
+    } else if first == b"ladder".as_slice() {
+        ladder(rest)
     } else {
         None
     }
@@ -47,7 +42,32 @@ fn induce(rest: &[u8]) -> Option<Command>
     };
     match split_word(p) {
         Some(_) => None,
-        None => checked_induce(small_number(e), small_number(i), small_number(m), partition(p)),
+        None => checked_induce(
+            small_number(e),
+            small_number(i),
+            small_number(m),
+            partition(p),
+        ),
+    }
+}
+
+// What stands behind the word `ladders`.
+fn ladders(rest: &[u8]) -> Option<Command>
+    ensures { result ≡ with_label Ladders (label_from (words rest.now)) }
+{
+    match label(rest) {
+        Some((e, mu)) => Some(Command::Ladders(e, mu)),
+        None => None,
+    }
+}
+
+// What stands behind the word `ladder`.
+fn ladder(rest: &[u8]) -> Option<Command>
+    ensures { result ≡ with_label Ladder (label_from (words rest.now)) }
+{
+    match label(rest) {
+        Some((e, mu)) => Some(Command::Ladder(e, mu)),
+        None => None,
     }
 }
 

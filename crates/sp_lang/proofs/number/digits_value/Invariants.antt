@@ -1,4 +1,4 @@
-use Rattle.std.proofs.Common.{◌≡◌, ℕ, ◌≤◌, take}
+use Rattle.std.proofs.Common.{◌≡◌, ◌≤◌, take}
 use Rattle.sp_lang.specs.Words.{digits_value}
 use Rattle.sp_lang.proofs.number.digits_value.Given as goal
 

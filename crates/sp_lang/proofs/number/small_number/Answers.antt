@@ -16,16 +16,16 @@ returns-then-value-gt255 c =
 pub returns-then-eq : goal.returns-then-eq
 returns-then-eq c =
     let text : c.as_bytes.result.now ≡ decimal (digits_value c.args.word.now) =
-        c.as_bytes.ensures.value ∙ c.format.ensures.text ∙ ap decimal c.digits_value-value.ensures in
+    c.as_bytes.ensures.value ∙ c.format.ensures.text ∙ ap decimal c.digits_value-value.ensures in
     let same : is_text (decimal (digits_value c.args.word.now)) c.args.word.now ≡ true =
-        ap (λ t. pointwise eqb t c.args.word.now) (sym text) ∙ sym c.eq.ensures ∙ c.if-eq.true in
+    ap (λ t. pointwise eqb t c.args.word.now) (sym text) ∙ sym c.eq.ensures ∙ c.if-eq.true in
     ap Some c.digits_value-value.ensures
     ∙ sym (small_number-same c.args.word.now (subst (λ n. n ≤ 255) c.digits_value-value.ensures c.if-value-gt255.false) same)
 
 pub returns-else-eq : goal.returns-else-eq
 returns-else-eq c =
     let text : c.as_bytes.result.now ≡ decimal (digits_value c.args.word.now) =
-        c.as_bytes.ensures.value ∙ c.format.ensures.text ∙ ap decimal c.digits_value-value.ensures in
+    c.as_bytes.ensures.value ∙ c.format.ensures.text ∙ ap decimal c.digits_value-value.ensures in
     let other : is_text (decimal (digits_value c.args.word.now)) c.args.word.now ≡ false =
-        ap (λ t. pointwise eqb t c.args.word.now) (sym text) ∙ sym c.eq.ensures ∙ c.if-eq.false in
+    ap (λ t. pointwise eqb t c.args.word.now) (sym text) ∙ sym c.eq.ensures ∙ c.if-eq.false in
     sym (small_number-other c.args.word.now other)
