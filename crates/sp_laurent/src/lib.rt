@@ -5,11 +5,20 @@ ghost use Rattle.std.specs.Prelude.{◌≡◌, ℕ, ◌^◌, ◌<◌, ◌≤◌,
 ghost use Rattle.sp_defs.specs.Laurent.{coefficient, size, monomial};
 ghost use Rattle.sp_laurent.specs.Held.{IsHeld, power_limit};
 
+use crate::sums::push_term;
 use std::alloc::{AllocError, Global};
 use std::marker::Model;
 
+mod fault;
+mod sums;
+
+pub use fault::LaurentFault;
+
 /// Powers are at most this far from 0.
 pub const POWER_LIMIT: i32 = 1_000_000_000;
+
+/// A power of v, and its coefficient.
+type Term = (i32, i128);
 
 /// A Laurent polynomial: its terms are pairs of a power of v and the coefficient there, which isn't 0, in ascending
 /// order of powers.
@@ -45,12 +54,9 @@ impl Laurent {
         requires within { unsigned_abs power ≤ power_limit }
         ensures { IfOk result (λ p. p ≡ monomial power coefficient) }
     {
-        if coefficient == 0 {
-            return Ok(Laurent::zero(alloc));
-        }
-        Ok(Laurent {
-            terms: vec![in alloc; (power, coefficient)]?,
-        })
+        let mut terms = Vec::new(alloc);
+        push_term(&mut terms, power, coefficient)?;
+        Ok(Laurent { terms })
     }
 
     /// The terms, strictly ascending by power.
