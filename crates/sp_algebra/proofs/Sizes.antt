@@ -1,5 +1,5 @@
 -- The size of a sum, a product and a monomial, and how far their powers lie from 0.
-use Rattle.std.proofs.Common.{◌≡◌, ℕ, zero, suc, ◌+◌, ◌*◌, ◌<◌, ◌≤◌, length, get_or, true, false, cond, List, [], ◌∷◌, ◌++◌, map, flat_map, refl, sym, ◌∙◌, ap, ap₂, subst, arith, ℤ, pos, ◌+ℤ◌, ◌*ℤ◌, Less, Equal, Greater, int_cmp, int_eq}
+use Rattle.std.proofs.Common.{◌≡◌, ℕ, zero, suc, ◌+◌, ◌*◌, ◌<◌, ◌≤◌, length, get_or, true, false, cond, [], ◌∷◌, ◌++◌, map, sym, ap, subst, arith, ℤ, pos, ◌+ℤ◌, ◌*ℤ◌, Less, Equal, Greater, int_cmp, int_eq}
 use Rattle.std.proofs.lemmas.Int.{ints, unsigned_abs-mul}
 use Rattle.std.proofs.lemmas.List.Sums.{sum_by-append, sum_by-cons}
 use Rattle.std.specs.Int.RustNames.{unsigned_abs}
@@ -48,15 +48,25 @@ size_plus p q = omega (arith, size_collect (p ++ q), size-append p q)
 pub size-multiples : (k c : ℤ) (q : Laurent) → size (map (λ t. (k +ℤ t.0, c *ℤ t.1)) q) ≡ unsigned_abs c * size q
 size-multiples k c [] = omega arith
 size-multiples k c ((j, d) ∷ q) =
-    omega (arith, size-cons (k +ℤ j) (c *ℤ d) (map (λ t. (k +ℤ t.0, c *ℤ t.1)) q), unsigned_abs-mul c d,
-    size-multiples k c q, ap (λ n. unsigned_abs c * n) (size-cons j d q))
+    omega (
+      arith,
+      size-cons (k +ℤ j) (c *ℤ d) (map (λ t. (k +ℤ t.0, c *ℤ t.1)) q),
+      unsigned_abs-mul c d,
+      size-multiples k c q,
+      ap (λ n. unsigned_abs c * n) (size-cons j d q),
+    )
 
 pub size-products : (p q : Laurent) → size (products p q) ≡ size p * size q
 unfolding products
 size-products [] q = omega arith
 size-products ((k, c) ∷ p) q =
-    omega (arith, size-append (map (λ t. (k +ℤ t.0, c *ℤ t.1)) q) (products p q), size-multiples k c q,
-    size-products p q, ap (λ n. n * size q) (size-cons k c p))
+    omega (
+      arith,
+      size-append (map (λ t. (k +ℤ t.0, c *ℤ t.1)) q) (products p q),
+      size-multiples k c q,
+      size-products p q,
+      ap (λ n. n * size q) (size-cons k c p),
+    )
 
 pub size_times : (p q : Laurent) → size (times p q) ≤ size p * size q
 unfolding times

@@ -1,14 +1,14 @@
 -- Sums and products built up term by term, as code builds them; products in either order.
-use Rattle.std.proofs.Common.{◌≡◌, ◌≢◌, true, false, cond, List, [], ◌∷◌, ◌++◌, map, refl, sym, ◌∙◌, ap, ap₂, subst, arith, ℤ, pos, ◌+ℤ◌, ◌-ℤ◌, ◌*ℤ◌, ◌<ℤ◌, Less, Equal, Greater, int_cmp, int_eq}
+use Rattle.std.proofs.Common.{◌≡◌, ◌≢◌, true, false, cond, [], ◌∷◌, ◌++◌, refl, sym, ◌∙◌, ap, ap₂, subst, arith, ℤ, pos, ◌+ℤ◌, ◌-ℤ◌, ◌*ℤ◌, ◌<ℤ◌, Less, Equal, Greater, int_cmp, int_eq}
 use Rattle.std.proofs.lemmas.Int.{ints}
 use Rattle.std.proofs.Math.IntN.{*ℤ_comm}
 use Rattle.std.specs.Ordering.{MatchOrdering}
 use Rattle.std.specs.Cmp.{int_ranks}
 use Rattle.std.specs.List.{AllByRecursion}
-use Rattle.sp_defs.specs.Laurent.{Laurent, coefficient, put, placed, add_term, collect, plus, monomial, products, times}
+use Rattle.sp_defs.specs.Laurent.{Laurent, coefficient, put, placed, add_term, collect, plus, monomial, times}
 use Rattle.sp_algebra.proofs.Whole.{times-+ℤ}
-use Rattle.sp_algebra.proofs.Coefficients.{Above, at, by_eq, at-same, at-other, coefficient-append, same_collection, same_laurent}
-use Rattle.sp_algebra.proofs.Laws.{IsLaurent-plus, IsLaurent-times, act, act-alike, act-append, act-sum, coefficient-plus, coefficient-times}
+use Rattle.sp_algebra.proofs.Coefficients.{Above, at, by_eq, at-same, at-other, coefficient-append, coefficient-collect, same_collection, same_laurent}
+use Rattle.sp_algebra.proofs.Laws.{IsLaurent-plus, IsLaurent-times, act, act-append, act-sum, coefficient-plus, coefficient-times}
 
 -- ---- one term more
 
@@ -16,6 +16,11 @@ use Rattle.sp_algebra.proofs.Laws.{IsLaurent-plus, IsLaurent-times, act, act-ali
 pub collect-push : (ts : Laurent) (k c : ℤ) → collect (ts ++ ((k, c) ∷ [])) ≡ add_term k c (collect ts)
 unfolding collect coefficient
 collect-push ts k c = same_collection (ts ++ ((k, c) ∷ [])) ((k, c) ∷ ts) (λ j. coefficient-append ts ((k, c) ∷ []) j ∙ omega (arith, ints))
+
+-- like powers may be collected in a part first
+pub collect-part : (p q : Laurent) → collect (p ++ collect q) ≡ collect (p ++ q)
+collect-part p q = same_collection (p ++ collect q) (p ++ q) (λ j.
+    coefficient-append p (collect q) j ∙ ap (λ x. coefficient p j +ℤ x) (coefficient-collect q j) ∙ sym (coefficient-append p q j))
 
 -- a term goes past those of lower powers
 pub add_term-append : (k c : ℤ) (p q : Laurent) → AllByRecursion (λ t. t.0 <ℤ k) p → add_term k c (p ++ q) ≡ p ++ add_term k c q
@@ -47,7 +52,7 @@ unfolding add_term
 add_term-above k c [] a = put-append k c []
 add_term-above k c ((j, d) ∷ p) (lt, a) =
     elim (int_cmp k j) as (λ o. MatchOrdering o (k <ℤ j) (k ≡ j) (j <ℤ k)
-        → placed o (k, c) (j, d) p (add_term k c p) ≡ monomial k c ++ ((j, d) ∷ p)) [
+    → placed o (k, c) (j, d) p (add_term k c p) ≡ monomial k c ++ ((j, d) ∷ p)) [
       | Less ↦ λ h. put-append k c ((j, d) ∷ p)
       | Equal ↦ λ h. absurd (omega (arith, ints))
       | Greater ↦ λ h. absurd (omega (arith, ints))
@@ -58,7 +63,7 @@ pub add_term-same : (k c j d : ℤ) (p : Laurent) → k ≡ j → add_term k c (
 unfolding add_term
 add_term-same k c j d p e =
     elim (int_cmp k j) as (λ o. MatchOrdering o (k <ℤ j) (k ≡ j) (j <ℤ k)
-        → placed o (k, c) (j, d) p (add_term k c p) ≡ monomial k (c +ℤ d) ++ p) [
+    → placed o (k, c) (j, d) p (add_term k c p) ≡ monomial k (c +ℤ d) ++ p) [
       | Less ↦ λ h. absurd (omega (arith, ints))
       | Equal ↦ λ h. put-append k (c +ℤ d) p
       | Greater ↦ λ h. absurd (omega (arith, ints))

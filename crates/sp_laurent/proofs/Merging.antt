@@ -1,7 +1,6 @@
 -- One step of the merge of two ascending lists of terms.
-use Rattle.std.proofs.Common.{◌≡◌, ◌≢◌, ℕ, zero, suc, ◌+◌, ◌-◌, ◌<◌, ◌≤◌, true, false, cond, Bool, List, [], ◌∷◌, ◌++◌, take, drop, length, get_or, refl, sym, ◌∙◌, ap, ap₂, subst, append_assoc, to_z, of_z, SFits, to_z-of_z, ◌^◌, inl, inr, arith, ℤ, pos, ◌+ℤ◌, ◌<ℤ◌, ◌≤ℤ◌, int_lt}
-use Rattle.std.proofs.lemmas.Int.{ints, fits_signed_from_abs}
-use Rattle.std.specs.Int.{w128}
+use Rattle.std.proofs.Common.{◌≡◌, ◌≢◌, ℕ, ◌-◌, ◌≤◌, true, false, cond, [], ◌∷◌, ◌++◌, take, drop, length, get_or, refl, sym, ◌∙◌, ap, ap₂, subst, append_assoc, inl, inr, arith, ℤ, pos, ◌+ℤ◌, ◌<ℤ◌, ◌≤ℤ◌, int_lt}
+use Rattle.std.proofs.lemmas.Int.{ints}
 use Rattle.std.specs.Int.RustNames.{unsigned_abs}
 use Rattle.std.proofs.lemmas.Bool.{cases_lt}
 use Rattle.std.specs.List.{AllByRecursion, AllWithin}
@@ -9,7 +8,7 @@ use Rattle.std.specs.List.Sorted.{IsPartitionedBy}
 use Rattle.sp_defs.specs.Laurent.{Laurent, Term, add_term, monomial, size}
 use Rattle.sp_lists.proofs.Places.{all_weaken, all_take, all_drop, rest-cons}
 use Rattle.sp_lists.proofs.Elements.{all_append}
-use Rattle.sp_algebra.proofs.Sizes.{powers_monomial, size-append, size-monomial}
+use Rattle.sp_algebra.proofs.Sizes.{size-append, size-monomial}
 use Rattle.sp_algebra.proofs.Coefficients.{Above, Above-lower, Canonical, by_eq}
 use Rattle.sp_algebra.proofs.Places.{powers_ascend}
 use Rattle.sp_algebra.proofs.Steps.{add_term-append, add_term-above, add_term-same, put-nonzero}
@@ -101,14 +100,3 @@ appended_low sum0 sum1 sum2 below m k e1 e2 low low_m low0 =
     (all_append P (sum0 ++ below) m
     (all_append P sum0 below (all_weaken (λ t. t.0 <ℤ k) P sum0 le low0) (all_weaken (λ t. t.0 <ℤ k) P below le low))
     low_m)
-
--- the sum of two coefficients in its machine form
-pub sum_fits : (a b : ℤ) → SFits w128 a → SFits w128 b → unsigned_abs a + unsigned_abs b < 2 ^ 127
-    → SFits w128 (to_z w128 (of_z w128 a) +ℤ to_z w128 (of_z w128 b))
-sum_fits a b fa fb small =
-    subst (λ x. SFits w128 x) (sym (ap₂ (λ x y. x +ℤ y) (to_z-of_z fa) (to_z-of_z fb)))
-    (fits_signed_from_abs w128 (a +ℤ b) (omega (arith, ints)))
-
-pub sum_back : (a b : ℤ) → SFits w128 a → SFits w128 b → unsigned_abs a + unsigned_abs b < 2 ^ 127
-    → to_z w128 (of_z w128 (to_z w128 (of_z w128 a) +ℤ to_z w128 (of_z w128 b))) ≡ a +ℤ b
-sum_back a b fa fb small = to_z-of_z (sum_fits a b fa fb small) ∙ ap₂ (λ x y. x +ℤ y) (to_z-of_z fa) (to_z-of_z fb)

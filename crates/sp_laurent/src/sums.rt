@@ -1,5 +1,5 @@
 //! Sums of ascending lists of terms.
-ghost use Rattle.std.specs.Prelude.{◌≡◌, ◌+◌, ◌*◌, ◌^◌, ◌<◌, ◌≤◌, unsigned_abs, IfOk, OnOk, [], ◌∷◌, ◌++◌, ◌<ℤ◌, ◌≤ℤ◌};
+ghost use Rattle.std.specs.Prelude.{◌≡◌, ◌+◌, ◌*◌, ◌^◌, ◌<◌, ◌≤◌, unsigned_abs, IfOk, OnOk, IsTrue, ◌↔◌, [], ◌∷◌, ◌++◌, ◌<ℤ◌, ◌≤ℤ◌};
 ghost use Rattle.std.specs.List.{AllByRecursion};
 ghost use Rattle.sp_defs.specs.Laurent.{IsLaurent, size, monomial, add_term, plus, times};
 ghost use Rattle.sp_defs.specs.Within.{ProductWithin};
@@ -8,8 +8,25 @@ ghost use Rattle.sp_laurent.specs.Held.{power_limit};
 use crate::Term;
 use std::alloc::{AllocError, Global};
 
+/// Whether a sum of sizes and a product of sizes stay within a limit.
+pub(crate) fn is_within(limit: u128, size: u128, a: u128, b: u128) -> bool
+    ensures { IsTrue result ↔ (size + a * b ≤ limit) }
+{
+    match a.checked_mul(b) {
+        Some(product) => match product.checked_add(size) {
+            Some(sum) => sum <= limit,
+            None => false,
+        },
+        None => false,
+    }
+}
+
 /// Appends a term, unless its coefficient is 0.
-pub(crate) fn push_term(terms: &mut Vec<Term>, power: i32, coefficient: i128) -> Result<(), AllocError>
+pub(crate) fn push_term(
+    terms: &mut Vec<Term>,
+    power: i32,
+    coefficient: i128,
+) -> Result<(), AllocError>
     ensures { OnOk result (terms.new.items ≡ terms.old.items ++ monomial power coefficient) }
 {
     if coefficient != 0 {
@@ -38,7 +55,11 @@ fn split_first(terms: &[Term], power: i32) -> (i128, &[Term])
     let [first, above @ ..] = terms else {
         return (0, terms);
     };
-    if first.0 == power { (first.1, above) } else { (0, terms) }
+    if first.0 == power {
+        (first.1, above)
+    } else {
+        (0, terms)
+    }
 }
 
 // Moves the terms below `power` to the end of `sum`, and then one more term, joined with the term of its power.
@@ -62,8 +83,8 @@ fn merge_term<'a>(
     Ok(above)
 }
 
-/// The sum of `terms` and a term's multiple of `others`.
-pub(crate) fn with_multiple(
+// The sum of `terms` and a term's multiple of `others`.
+fn with_multiple(
     alloc: Global,
     terms: &[Term],
     term: Term,
@@ -84,8 +105,8 @@ pub(crate) fn with_multiple(
     Ok(sum)
 }
 
-/// The sum of `terms` and the product of `few` and `many`. It passes over `many` once for each term of `few`.
-pub(crate) fn with_product(
+// The sum of `terms` and the product of `few` and `many`. It passes over `many` once for each term of `few`.
+fn with_each_multiple(
     alloc: Global,
     terms: &[Term],
     few: &[Term],
@@ -106,4 +127,25 @@ pub(crate) fn with_product(
         sum = with_multiple(alloc, &sum, *term, many)?;
     }
     Ok(sum)
+}
+
+/// The sum of `terms` and the product of `a` and `b`. For one term in `a` or `b` it takes one merge.
+pub(crate) fn with_product(
+    alloc: Global,
+    terms: &[Term],
+    a: &[Term],
+    b: &[Term],
+) -> Result<Vec<Term>, AllocError>
+    requires laurent { IsLaurent terms.now }
+    requires a_laurent { IsLaurent a.now }
+    requires b_laurent { IsLaurent b.now }
+    requires fits { size terms.now + size a.now * size b.now < 2 ^ 127 }
+    requires within { ProductWithin power_limit a.now b.now }
+    ensures { IfOk result (λ sum. sum.items ≡ plus terms.now (times a.now b.now)) }
+{
+    if a.len() <= b.len() {
+        with_each_multiple(alloc, terms, a, b)
+    } else {
+        with_each_multiple(alloc, terms, b, a)
+    }
 }

@@ -1,13 +1,13 @@
-use Rattle.std.proofs.Common.{rules, ◌≡◌, ◌≢◌, ◌+◌, ◌<◌, ◌^◌, ◌≤◌, ◌++◌, pos, ◌+ℤ◌, ◌<ℤ◌, ◌≤ℤ◌, ℤ, length, get_or, to_z, of_z, to_z-of_z, w32, arith, sym, ◌∙◌, ap, ap₂, subst, SFits}
+use Rattle.std.proofs.Common.{rules, ◌++◌, ◌+ℤ◌, ◌<ℤ◌, ◌≤ℤ◌, to_z, of_z, to_z-of_z, w32, arith, sym, ◌∙◌, ap, ap₂, subst, SFits}
 use Rattle.std.specs.Int.{w128}
-use Rattle.std.proofs.lemmas.Int.{ints, fits_signed_from_abs}
-use Rattle.std.specs.Int.RustNames.{unsigned_abs}
+use Rattle.std.proofs.lemmas.Int.{ints}
 use Rattle.std.specs.List.{AllByRecursion}
-use Rattle.sp_defs.specs.Laurent.{add_term, monomial, size}
+use Rattle.sp_defs.specs.Laurent.{add_term, monomial}
 use Rattle.sp_algebra.proofs.Canonical.{canonical-from}
-use Rattle.sp_algebra.proofs.Coefficients.{IsLaurent-canonical, Above, Canonical}
-use Rattle.sp_algebra.proofs.Sizes.{size-append, size-monomial, powers_monomial}
-use Rattle.sp_laurent.proofs.Merging.{merged, canonical_right, appended, appended_low, sum_back, sum_fits, there_small}
+use Rattle.sp_algebra.proofs.Coefficients.{IsLaurent-canonical, Canonical}
+use Rattle.sp_algebra.proofs.Sizes.{powers_monomial}
+use Rattle.sp_laurent.proofs.Merging.{merged, canonical_right, appended, appended_low, there_small}
+use Rattle.sp_laurent.proofs.Machine.{add_fits, add_back, small_fits}
 use Rattle.sp_laurent.proofs.sums.merge_term.Goals as goal
 
 pub split_first-there-requires-clause-laurent : goal.split_first-there-requires-clause-laurent
@@ -22,8 +22,8 @@ overflow_add-coefficient c =
     let there = c.split_first-there.result.0 in
     let fits : SFits w128 there = search rules in
     let small = there_small (to_z w32 (of_z w32 c.args.power)) there c.split_below.result.0.now c.split_below.result.1.now c.split_first-there.result.1.now
-        c.args.terms.now c.split_below.ensures.joined c.split_first-there.ensures.joined in
-    sum_fits c.args.coefficient there c.ranges.coefficient fits (omega (arith, small, c.requires.fits))
+    c.args.terms.now c.split_below.ensures.joined c.split_first-there.ensures.joined in
+    add_fits w128 c.args.coefficient there c.ranges.coefficient fits (small_fits (c.args.coefficient +ℤ there) (omega (arith, ints, small, c.requires.fits)))
 
 pub returns-clause-joined : goal.returns-clause-joined
 returns-clause-joined c =
@@ -36,8 +36,8 @@ returns-clause-joined c =
     let low = subst (λ j. AllByRecursion (λ t. t.0 <ℤ j) below) back c.split_below.ensures.below in
     let high = subst (λ j. AllByRecursion (λ t. j <ℤ t.0) above) back c.split_first-there.ensures.above in
     let small = there_small (to_z w32 (of_z w32 k)) there below c.split_below.result.1.now above
-        c.args.terms.now c.split_below.ensures.joined c.split_first-there.ensures.joined in
-    let sum = sum_back c.args.coefficient there c.ranges.coefficient fits (omega (arith, small, c.requires.fits)) in
+    c.args.terms.now c.split_below.ensures.joined c.split_first-there.ensures.joined in
+    let sum = add_back w128 c.args.coefficient there c.ranges.coefficient fits (small_fits (c.args.coefficient +ℤ there) (omega (arith, ints, small, c.requires.fits))) in
     let pushed = c.in_ok-push_term.ensures ∙ ap (λ m. c.extend_from_slice.new.self.items ++ m) (ap₂ monomial back sum) in
     let parts = ap (λ q. below ++ q) (ap (λ j. monomial j there ++ above) (sym back) ∙ c.split_first-there.ensures.joined) ∙ c.split_below.ensures.joined in
     appended _ _ _ below _ above c.in_ok-extend_from_slice.ensures.items pushed

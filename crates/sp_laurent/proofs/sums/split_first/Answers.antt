@@ -1,4 +1,4 @@
-use Rattle.std.proofs.Common.{◌++◌, take, drop, length, ◌-◌, pos, rules, sym, ◌∙◌, ap, subst, arith, ◌≡◌, ◌≢◌, get_or, to_z-of_z, SFits, w32, of_z}
+use Rattle.std.proofs.Common.{◌++◌, take, drop, length, ◌-◌, pos, rules, ◌∙◌, ap, arith, ◌≡◌, ◌≢◌, get_or, to_z-of_z, SFits, w32, of_z}
 use Rattle.std.specs.Int.{w128}
 use Rattle.std.proofs.lemmas.Int.{ints}
 use Rattle.sp_defs.specs.Laurent.{monomial}
