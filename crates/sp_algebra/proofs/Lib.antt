@@ -8,3 +8,4 @@ pub mod PositiveSizes
 pub mod Sizes
 pub mod Places
 pub mod Reordered
+pub mod Steps
