@@ -5,3 +5,4 @@ pub mod Moves
 pub mod Residues
 pub mod Regular
 pub mod Degrees
+pub mod Corners
