@@ -2,3 +2,4 @@ pub mod Elements
 pub mod Counts
 pub mod Greatest
 pub mod Places
+pub mod FlatMaps

@@ -9,3 +9,4 @@ pub mod Within
 pub mod Degrees
 pub mod Before
 pub mod Corners
+pub mod CornerRows
