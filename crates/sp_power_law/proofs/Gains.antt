@@ -110,7 +110,7 @@ pub not_both : (e i : ℕ) (parts : List ℕ) (r : ℕ) → 2 ≤ e → addable_
 not_both e i parts r he a b = right_differs e r (part parts r) he
     ((addable_facts e i parts r a).residue_is
     ∙ sym (eqb-true (residue e (r, part parts r)) i
-        (and_split (is_removable parts (r, part parts r)) (nat_eq (residue e (r, part parts r)) i) b).1))
+    (and_split (is_removable parts (r, part parts r)) (nat_eq (residue e (r, part parts r)) i) b).1))
 
 pub not_true : (b : Bool) → (b ≡ true → ⊥) → b ≡ false
 not_true true f = absurd (f refl)

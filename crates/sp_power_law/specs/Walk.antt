@@ -14,7 +14,7 @@ moves_through marks zero parts difference sum = (parts, sum) ∷ []
 moves_through [] (suc m) parts difference sum = []
 moves_through ((Addable, x) ∷ marks) (suc m) parts difference sum =
     moves_through marks m (add_node parts x) difference (sum +ℤ difference) ++ moves_through marks (suc m) parts
-        (difference +ℤ pos 1) sum
+    (difference +ℤ pos 1) sum
 moves_through ((Removable, x) ∷ marks) (suc m) parts difference sum =
     moves_through marks (suc m) parts (difference -ℤ pos 1) sum
 
