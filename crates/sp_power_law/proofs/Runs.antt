@@ -28,7 +28,7 @@ heads rs = map (λ run. run.0) rs
 pub earlier_than : (x y : List ℕ) → compare x y ≡ Greater → IsEarlier y x
 earlier_than x y h = nat_list_cmp_total.antisymm y x ∙ ap ordering_reverse h
 
-same_or_later : (x y : List ℕ) → is_lt (compare y x) ≡ false → (x ≡ y) ⊎ IsEarlier x y
+pub same_or_later : (x y : List ℕ) → is_lt (compare y x) ≡ false → (x ≡ y) ⊎ IsEarlier x y
 same_or_later x y h = by_order (compare y x) refl
   where
     by_order : (o : Ordering) → compare y x ≡ o → (x ≡ y) ⊎ IsEarlier x y

@@ -136,7 +136,7 @@ one_more_term t f g x smaller larger o tx h =
 
 module _ (e i : ℕ) (he : 2 ≤ e) (parts : List ℕ) (pp : IsPartition parts) where
   -- the node that a row could gain is addable in the partition so far just where it is in the first
-  same_addable : (r k : ℕ) (now : List ℕ) (d x : ℤ) → 1 ≤ r → Before e i parts r k now d x →
+  pub same_addable : (r k : ℕ) (now : List ℕ) (d x : ℤ) → 1 ≤ r → Before e i parts r k now d x →
       addable_at e i now r ≡ addable_at e i parts r
   same_addable r k now d x hr st = same_tests (addable_at e i now r) (addable_at e i parts r)
       (λ a. facts_addable e i parts r hr (earlier (addable_facts e i now r a)))
