@@ -1,9 +1,10 @@
--- For a polynomial in canonical form the simple operations are term by term, as code computes them.
+-- For a polynomial the negation goes term by term: the list that a loop over the terms makes needs no collecting.
 use Rattle.std.proofs.Common.{◌≡◌, [], ◌∷◌, map, subst, ℤ, neg_ℤ, arith}
 use Rattle.std.proofs.lemmas.Int.{ints}
 use Rattle.sp_defs.specs.Laurent.{Laurent, negate, IsLaurent}
 use Rattle.sp_algebra.proofs.Coefficients.{Above, Canonical, Canonical-collect, IsLaurent-canonical}
 
+-- a polynomial is a canonical list, and back by `IsLaurent-canonical`
 pub canonical-from : (p : Laurent) → IsLaurent p → Canonical p
 canonical-from p h = subst (λ q. Canonical q) h (Canonical-collect p)
 
@@ -16,7 +17,7 @@ canonical-negated [] h = tt
 canonical-negated ((k, c) ∷ p) (ne, (a, h)) =
     ((λ e. ne (omega (arith, ints, e))), (above-negated k p a, canonical-negated p h))
 
--- what a loop over the terms makes
+-- the negation is the list of the negated terms
 pub negate_is : (p : Laurent) → IsLaurent p → negate p ≡ map (λ t. (t.0, neg_ℤ t.1)) p
 unfolding negate
 negate_is p h = IsLaurent-canonical (map (λ t. (t.0, neg_ℤ t.1)) p) (canonical-negated p (canonical-from p h))

@@ -1,4 +1,6 @@
--- The laws of Laurent polynomials.
+-- The laws of Laurent polynomials: sums, products, bar, and the lift, which is the only bar-invariant polynomial that
+-- leaves positive powers alone.
+-- Each law is read off the coefficients, since polynomials with the same coefficients are equal.
 use Rattle.std.proofs.Common.{◌≡◌, ◌≢◌, Bool, true, false, cond, [], ◌∷◌, ◌++◌, map, filter, refl, sym, ◌∙◌, ap, ap₂}
 use Rattle.std.proofs.Common.{subst, ℤ, pos, neg_ℤ, ◌+ℤ◌, ◌-ℤ◌, ◌*ℤ◌, ◌<ℤ◌, ◌≤ℤ◌, int_cmp, int_eq, int_lt, int_le}
 use Rattle.std.proofs.Common.{arith, Less, Equal, Greater}
@@ -11,17 +13,27 @@ use Rattle.sp_algebra.proofs.Whole.{+ℤ-times, times-+ℤ, *ℤ_assoc}
 use Rattle.sp_algebra.proofs.Coefficients.{at, by_eq, at-same, at-other, coefficient-append, coefficient-collect}
 use Rattle.sp_algebra.proofs.Coefficients.{same_laurent, IsLaurent-collect}
 
--- ---- sums
+-- the terms of the negation, of the bar, and of the product with c * v^k
+abbrev negated : Laurent → Laurent
+negated p = map (λ t. (t.0, neg_ℤ t.1)) p
+
+abbrev barred : Laurent → Laurent
+barred p = map (λ t. (neg_ℤ t.0, t.1)) p
+
+abbrev scaled : ℤ → ℤ → Laurent → Laurent
+scaled k c q = map (λ t. (k +ℤ t.0, c *ℤ t.1)) q
+
+-- ---- the coefficients of a sum and of a negation
 
 pub coefficient-plus : (p q : Laurent) (j : ℤ) → coefficient (plus p q) j ≡ coefficient p j +ℤ coefficient q j
 unfolding plus
 coefficient-plus p q j = coefficient-collect (p ++ q) j ∙ coefficient-append p q j
 
-coefficient-negated : (p : Laurent) (j : ℤ) → coefficient (map (λ t. (t.0, neg_ℤ t.1)) p) j ≡ neg_ℤ (coefficient p j)
+coefficient-negated : (p : Laurent) (j : ℤ) → coefficient (negated p) j ≡ neg_ℤ (coefficient p j)
 unfolding coefficient
 coefficient-negated [] j = refl
 coefficient-negated ((k, c) ∷ p) j =
-    elim (int_eq k j) as (λ b. cond b (neg_ℤ c) (pos 0) +ℤ coefficient (map (λ t. (t.0, neg_ℤ t.1)) p) j
+    elim (int_eq k j) as (λ b. cond b (neg_ℤ c) (pos 0) +ℤ coefficient (negated p) j
     ≡ neg_ℤ (cond b c (pos 0) +ℤ coefficient p j)) [
       | true ↦ omega (arith, ints, coefficient-negated p j)
       | false ↦ omega (arith, ints, coefficient-negated p j)
@@ -29,15 +41,16 @@ coefficient-negated ((k, c) ∷ p) j =
 
 pub coefficient-negate : (p : Laurent) (j : ℤ) → coefficient (negate p) j ≡ neg_ℤ (coefficient p j)
 unfolding negate
-coefficient-negate p j = coefficient-collect (map (λ t. (t.0, neg_ℤ t.1)) p) j ∙ coefficient-negated p j
+coefficient-negate p j = coefficient-collect (negated p) j ∙ coefficient-negated p j
 
+-- what each operation gives is a polynomial
 pub IsLaurent-plus : (p q : Laurent) → IsLaurent (plus p q)
 unfolding plus
 IsLaurent-plus p q = IsLaurent-collect (p ++ q)
 
 pub IsLaurent-negate : (p : Laurent) → IsLaurent (negate p)
 unfolding negate
-IsLaurent-negate p = IsLaurent-collect (map (λ t. (t.0, neg_ℤ t.1)) p)
+IsLaurent-negate p = IsLaurent-collect (negated p)
 
 pub IsLaurent-times : (p q : Laurent) → IsLaurent (times p q)
 unfolding times
@@ -45,7 +58,7 @@ IsLaurent-times p q = IsLaurent-collect (products p q)
 
 pub IsLaurent-bar : (p : Laurent) → IsLaurent (bar p)
 unfolding bar
-IsLaurent-bar p = IsLaurent-collect (map (λ t. (neg_ℤ t.0, t.1)) p)
+IsLaurent-bar p = IsLaurent-collect (barred p)
 
 pub IsLaurent-lift : (p : Laurent) → IsLaurent (lift p)
 unfolding lift
@@ -56,6 +69,8 @@ IsLaurent-lift p =
 -- a bar-invariant polynomial is in canonical form
 pub IsLaurent-bar_invariant : (p : Laurent) → IsBarInvariant p → IsLaurent p
 IsLaurent-bar_invariant p h = subst (λ q. IsLaurent q) h (IsLaurent-bar p)
+
+-- ---- sums are a commutative group
 
 pub plus_comm : (p q : Laurent) → plus p q ≡ plus q p
 plus_comm p q = same_laurent _ _ (IsLaurent-plus p q) (IsLaurent-plus q p)
@@ -86,15 +101,19 @@ unfolding coefficient collect
 plus_negate p = same_laurent _ _ (IsLaurent-plus p (negate p)) refl
     (λ j. omega (arith, ints, coefficient-plus p (negate p) j, coefficient-negate p j))
 
--- ---- products: a polynomial acts on coefficient functions
+-- ---- products
 
+-- A polynomial acts on functions of the power, as its product acts on coefficients: at j the sum of c * f (j - k) over
+-- its terms.
 unfoldable pub act : Laurent → (ℤ → ℤ) → ℤ → ℤ
 act [] f j = pos 0
 act ((k, c) ∷ p) f j = c *ℤ f (j -ℤ k) +ℤ act p f j
 
+-- equal functions are acted on alike
 pub act-alike : (p : Laurent) (f g : ℤ → ℤ) (j : ℤ) → ((i : ℤ) → f i ≡ g i) → act p f j ≡ act p g j
 act-alike p f g j e = ap (λ h. act p h j) (λ i x. e x i)
 
+-- the action is additive in the terms, so it does not see the order or like powers
 pub act-append : (p q : Laurent) (f : ℤ → ℤ) (j : ℤ) → act (p ++ q) f j ≡ act p f j +ℤ act q f j
 unfolding act
 act-append [] q f j = omega (arith, ints)
@@ -149,20 +168,21 @@ scale_step c d x y z e = ap (λ w. (c *ℤ d) *ℤ x +ℤ w) e ∙ poly c d x y
     poly c d x y = omega (arith, ints, times-+ℤ c (d *ℤ x) y, *ℤ_assoc c d x)
 
 act-scaled : (k c : ℤ) (q : Laurent) (f : ℤ → ℤ) (j : ℤ) →
-    act (map (λ t. (k +ℤ t.0, c *ℤ t.1)) q) f j ≡ c *ℤ act q f (j -ℤ k)
+    act (scaled k c q) f j ≡ c *ℤ act q f (j -ℤ k)
 unfolding act
 act-scaled k c [] f j = omega (arith, ints)
 act-scaled k c ((l, d) ∷ q) f j =
-    ap (λ x. (c *ℤ d) *ℤ f x +ℤ act (map (λ t. (k +ℤ t.0, c *ℤ t.1)) q) f j) (shift_args j k l)
+    ap (λ x. (c *ℤ d) *ℤ f x +ℤ act (scaled k c q) f j) (shift_args j k l)
     ∙ scale_step c d (f (j -ℤ k -ℤ l)) (act q f (j -ℤ k)) _ (act-scaled k c q f j)
 
 act-products : (p q : Laurent) (f : ℤ → ℤ) (j : ℤ) → act (products p q) f j ≡ act p (act q f) j
 unfolding act products
 act-products [] q f j = refl
 act-products ((k, c) ∷ p) q f j =
-    act-append (map (λ t. (k +ℤ t.0, c *ℤ t.1)) q) (products p q) f j
+    act-append (scaled k c q) (products p q) f j
     ∙ ap₂ (λ x y. x +ℤ y) (act-scaled k c q f j) (act-products p q f j)
 
+-- a product acts as one factor after the other
 pub act-times : (p q : Laurent) (f : ℤ → ℤ) (j : ℤ) → act (times p q) f j ≡ act p (act q f) j
 unfolding times
 act-times p q f j = act-collect (products p q) f j ∙ act-products p q f j
@@ -180,7 +200,7 @@ at-scaled k l c d j = by_eq (k +ℤ l) j (λ b. cond b (c *ℤ d) (pos 0) ≡ c 
     nothing x = omega (arith, ints)
 
 coefficient-scaled : (k c : ℤ) (q : Laurent) (j : ℤ) →
-    coefficient (map (λ t. (k +ℤ t.0, c *ℤ t.1)) q) j ≡ c *ℤ coefficient q (j -ℤ k)
+    coefficient (scaled k c q) j ≡ c *ℤ coefficient q (j -ℤ k)
 unfolding coefficient
 coefficient-scaled k c [] j = omega (arith, ints)
 coefficient-scaled k c ((l, d) ∷ q) j =
@@ -194,13 +214,15 @@ coefficient-products : (p q : Laurent) (j : ℤ) → coefficient (products p q) 
 unfolding coefficient products act
 coefficient-products [] q j = refl
 coefficient-products ((k, c) ∷ p) q j =
-    coefficient-append (map (λ t. (k +ℤ t.0, c *ℤ t.1)) q) (products p q) j
+    coefficient-append (scaled k c q) (products p q) j
     ∙ ap₂ (λ x y. x +ℤ y) (coefficient-scaled k c q j) (coefficient-products p q j)
 
+-- the coefficients of a product
 pub coefficient-times : (p q : Laurent) (j : ℤ) → coefficient (times p q) j ≡ act p (coefficient q) j
 unfolding times
 coefficient-times p q j = coefficient-collect (products p q) j ∙ coefficient-products p q j
 
+-- the action is additive in the function
 pub act-sum : (p : Laurent) (f g : ℤ → ℤ) (j : ℤ) → act p (λ i. f i +ℤ g i) j ≡ act p f j +ℤ act p g j
 unfolding act
 act-sum [] f g j = omega (arith, ints)
@@ -210,6 +232,8 @@ act-sum ((k, c) ∷ p) f g j =
   where
     spread : (c x y u v : ℤ) → c *ℤ (x +ℤ y) +ℤ (u +ℤ v) ≡ (c *ℤ x +ℤ u) +ℤ (c *ℤ y +ℤ v)
     spread c x y u v = omega (arith, ints, times-+ℤ c x y)
+
+-- ---- products distribute over sums, and have a unit
 
 pub times_assoc : (p q r : Laurent) → times (times p q) r ≡ times p (times q r)
 times_assoc p q r = same_laurent _ _ (IsLaurent-times (times p q) r) (IsLaurent-times p (times q r))
@@ -290,14 +314,15 @@ at-bar k c j = by_eq (neg_ℤ k) j (λ b. cond b c (pos 0) ≡ at k c (neg_ℤ j
     (λ e. let s : k ≡ neg_ℤ j = omega (arith, ints) in subst (λ x. c ≡ at k c x) s (sym (at-same k c)))
     (λ ne. let s : k ≢ neg_ℤ j = λ e. ne (omega (arith, ints)) in sym (at-other k c (neg_ℤ j) s))
 
-coefficient-barred : (p : Laurent) (j : ℤ) → coefficient (map (λ t. (neg_ℤ t.0, t.1)) p) j ≡ coefficient p (neg_ℤ j)
+coefficient-barred : (p : Laurent) (j : ℤ) → coefficient (barred p) j ≡ coefficient p (neg_ℤ j)
 unfolding coefficient
 coefficient-barred [] j = refl
 coefficient-barred ((k, c) ∷ p) j = ap₂ (λ x y. x +ℤ y) (at-bar k c j) (coefficient-barred p j)
 
+-- bar has at j the coefficient at -j
 pub coefficient-bar : (p : Laurent) (j : ℤ) → coefficient (bar p) j ≡ coefficient p (neg_ℤ j)
 unfolding bar
-coefficient-bar p j = coefficient-collect (map (λ t. (neg_ℤ t.0, t.1)) p) j ∙ coefficient-barred p j
+coefficient-bar p j = coefficient-collect (barred p) j ∙ coefficient-barred p j
 
 -- what bar-invariance says of the coefficients, and back
 pub even_coefficients : (p : Laurent) → IsBarInvariant p → (j : ℤ) → coefficient p (neg_ℤ j) ≡ coefficient p j
@@ -308,7 +333,7 @@ pub bar_invariant-from : (p : Laurent) → IsLaurent p → ((j : ℤ) → coeffi
 bar_invariant-from p l e = same_laurent _ _ (IsLaurent-bar p) l (λ j. coefficient-bar p j ∙ e j)
 
 act-barred : (p : Laurent) (f : ℤ → ℤ) (j : ℤ) →
-    act (map (λ t. (neg_ℤ t.0, t.1)) p) (λ i. f (neg_ℤ i)) j ≡ act p f (neg_ℤ j)
+    act (barred p) (λ i. f (neg_ℤ i)) j ≡ act p f (neg_ℤ j)
 unfolding act
 act-barred [] f j = refl
 act-barred ((k, c) ∷ p) f j = ap₂ (λ x y. c *ℤ f x +ℤ y) (turned j k) (act-barred p f j)
@@ -316,14 +341,16 @@ act-barred ((k, c) ∷ p) f j = ap₂ (λ x y. c *ℤ f x +ℤ y) (turned j k) (
     turned : (j k : ℤ) → neg_ℤ (j -ℤ neg_ℤ k) ≡ neg_ℤ j -ℤ k
     turned j k = omega (arith, ints)
 
+-- bar of a product is the product of the bars
 pub bar_times : (p q : Laurent) → bar (times p q) ≡ times (bar p) (bar q)
 unfolding bar
 bar_times p q = same_laurent _ _ (IsLaurent-bar (times p q)) (IsLaurent-times (bar p) (bar q))
     (λ j. coefficient-bar (times p q) j ∙ coefficient-times p q (neg_ℤ j) ∙ sym (act-barred p (coefficient q) j)
-    ∙ act-alike (map (λ t. (neg_ℤ t.0, t.1)) p) _ _ j (λ i. sym (coefficient-bar q i))
-    ∙ sym (act-collect (map (λ t. (neg_ℤ t.0, t.1)) p) (coefficient (bar q)) j)
+    ∙ act-alike (barred p) _ _ j (λ i. sym (coefficient-bar q i))
+    ∙ sym (act-collect (barred p) (coefficient (bar q)) j)
     ∙ sym (coefficient-times (bar p) (bar q) j))
 
+-- what is bar-invariant
 pub bar_invariant-times : (p q : Laurent) → IsBarInvariant p → IsBarInvariant q → IsBarInvariant (times p q)
 bar_invariant-times p q hp hq = bar_times p q ∙ ap₂ (λ x y. times x y) hp hq
 
@@ -353,35 +380,30 @@ bar_invariant-one = refl
 
 -- ---- the lift
 
+-- the terms whose powers pass a test
 coefficient-filter : (t : ℤ → Bool) (p : Laurent) (j : ℤ) →
     coefficient (filter (λ x. t x.0) p) j ≡ cond (t j) (coefficient p j) (pos 0)
 unfolding coefficient
-coefficient-filter t [] j = elim (t j) as (λ b. pos 0 ≡ cond b (pos 0) (pos 0)) [ true ↦ refl | false ↦ refl ]
-coefficient-filter t ((k, c) ∷ p) j =
-    by_eq k j
-    (λ b. coefficient (cond (t k) ((k, c) ∷ filter (λ x. t x.0) p) (filter (λ x. t x.0) p)) j
-    ≡ cond (t j) (cond b c (pos 0) +ℤ coefficient p j) (pos 0))
-    (λ e. subst
-    (λ x. coefficient (cond (t k) ((k, c) ∷ filter (λ y. t y.0) p) (filter (λ y. t y.0) p)) x
-    ≡ cond (t x) (c +ℤ coefficient p x) (pos 0)) e
-    (elim (t k) as (λ b. coefficient (filter (λ y. t y.0) p) k ≡ cond b (coefficient p k) (pos 0) →
-    coefficient (cond b ((k, c) ∷ filter (λ y. t y.0) p) (filter (λ y. t y.0) p)) k
-    ≡ cond b (c +ℤ coefficient p k) (pos 0)) [
-      | true ↦ λ h. ap₂ (λ x y. x +ℤ y) (at-same k c) h
-      | false ↦ λ h. h
-    ] (coefficient-filter t p k)))
-    (λ ne. elim (t k) as (λ b. coefficient (cond b ((k, c) ∷ filter (λ y. t y.0) p) (filter (λ y. t y.0) p)) j
-    ≡ cond (t j) (pos 0 +ℤ coefficient p j) (pos 0)) [
-      | true ↦ ap₂ (λ x y. x +ℤ y) (at-other k c j ne) (coefficient-filter t p j) ∙ spread (t j) (coefficient p j)
-      | false ↦ coefficient-filter t p j ∙ ap (λ x. cond (t j) x (pos 0)) (plain (coefficient p j))
-    ])
+coefficient-filter t [] j = none (t j)
   where
-    plain : (x : ℤ) → x ≡ pos 0 +ℤ x
-    plain x = omega (arith, ints)
+    none : (b : Bool) → pos 0 ≡ cond b (pos 0) (pos 0)
+    none true = refl
+    none false = refl
+coefficient-filter t ((k, c) ∷ p) j = tested (t k) (t j) refl refl (coefficient-filter t p j)
+  where
+    other : (a b : Bool) → t k ≡ a → t j ≡ b → a ≢ b → at k c j ≡ pos 0
+    other a b ta tb ne = at-other k c j (λ e. ne (sym ta ∙ ap t e ∙ tb))
 
-    spread : (b : Bool) (x : ℤ) → pos 0 +ℤ cond b x (pos 0) ≡ cond b (pos 0 +ℤ x) (pos 0)
-    spread b x = elim b as (λ b. pos 0 +ℤ cond b x (pos 0) ≡ cond b (pos 0 +ℤ x) (pos 0)) [ true ↦ refl | false ↦ refl ]
+    tested : (a b : Bool) → t k ≡ a → t j ≡ b →
+        coefficient (filter (λ x. t x.0) p) j ≡ cond b (coefficient p j) (pos 0) →
+        coefficient (cond a ((k, c) ∷ filter (λ x. t x.0) p) (filter (λ x. t x.0) p)) j
+        ≡ cond b (at k c j +ℤ coefficient p j) (pos 0)
+    tested true true ta tb ih = ap (λ x. at k c j +ℤ x) ih
+    tested true false ta tb ih = omega (arith, ints, ih, other true false ta tb (λ z. cc))
+    tested false true ta tb ih = omega (arith, ints, ih, other false true ta tb (λ z. cc))
+    tested false false ta tb ih = ih
 
+-- the lift has the coefficients of p up to 0, and past 0 those at the opposite power
 pub coefficient-lift : (p : Laurent) (j : ℤ) →
     coefficient (lift p) j
     ≡ cond (int_le j (pos 0)) (coefficient p j) (pos 0)
@@ -407,6 +429,7 @@ lt_yes j h = grind (arith, ints)
 lt_no : (j : ℤ) → j ≤ℤ pos 0 → int_lt (neg_ℤ j) (pos 0) ≡ false
 lt_no j h = grind (arith, ints)
 
+-- the two halves of the lift
 pub lift-low : (p : Laurent) (j : ℤ) → j ≤ℤ pos 0 → coefficient (lift p) j ≡ coefficient p j
 lift-low p j h =
     coefficient-lift p j
@@ -419,6 +442,7 @@ lift-high p j h =
     ∙ ap₂ (λ a b. cond a (coefficient p j) (pos 0) +ℤ cond b (coefficient p (neg_ℤ j)) (pos 0)) (le_no j h) (lt_yes j h)
     ∙ omega (arith, ints)
 
+-- the lift is bar-invariant
 pub bar_invariant-lift : (p : Laurent) → IsBarInvariant (lift p)
 bar_invariant-lift p = bar_invariant-from (lift p) (IsLaurent-lift p) (λ j.
     elim (int_cmp j (pos 0)) as (λ o. MatchOrdering o (j <ℤ pos 0) (j ≡ pos 0) (pos 0 <ℤ j) →

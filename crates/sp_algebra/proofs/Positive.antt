@@ -1,5 +1,5 @@
--- Polynomials whose coefficients are all positive.
-use Rattle.std.proofs.Common.{◌≡◌, true, false, cond, List, [], ◌∷◌, ◌++◌, arith, ℤ, pos, ◌+ℤ◌, ◌<ℤ◌, Less, Equal}
+-- Polynomials whose coefficients are all positive: sums of them are, and so are sums of powers of v.
+use Rattle.std.proofs.Common.{true, false, cond, List, [], ◌∷◌, ◌++◌, arith, ℤ, pos, ◌+ℤ◌, ◌<ℤ◌, Less, Equal}
 use Rattle.std.proofs.Common.{Greater, int_cmp, int_eq}
 use Rattle.std.proofs.lemmas.Int.{ints}
 use Rattle.std.specs.List.{AllByRecursion}
@@ -32,6 +32,7 @@ pub positive_plus : (p q : Laurent) → AllPositive p → AllPositive q → AllP
 unfolding plus
 positive_plus p q hp hq = positive_collect (p ++ q) (all_append (λ t. pos 0 <ℤ t.1) p q hp hq)
 
+-- a sum of powers of v
 pub positive_sum : {X : Type 0} (xs : List X) (f : X → ℤ) → AllPositive (sum_over xs (λ x. power (f x)))
 unfolding sum_over
 positive_sum [] f = tt

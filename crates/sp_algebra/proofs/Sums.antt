@@ -1,8 +1,9 @@
--- Sums of a polynomial for each element of a list.
+-- Sums of a polynomial for each element of a list: over joined, mapped and nested lists, and with a factor in front.
 use Rattle.std.proofs.Common.{◌≡◌, ◌≢◌, List, [], ◌∷◌, ◌++◌, map, flat_map, refl, sym, ◌∙◌, ap, ap₂, ℤ, ◌+ℤ◌, ◌⊎◌, inl}
 use Rattle.std.proofs.Common.{inr}
 use Rattle.std.specs.List.{AllByRecursion}
 use Rattle.sp_defs.specs.Laurent.{Laurent, collect, add_term, products, plus, times, power, IsLaurent, sum_over}
+use Rattle.sp_lists.proofs.Elements.{nil_or_not}
 use Rattle.sp_algebra.proofs.Laws.{IsLaurent-plus, plus_assoc, nought_plus, times_plus, times_nought}
 
 pub IsLaurent-sum_over : {X : Type 0} (xs : List X) (f : X → Laurent) → IsLaurent (sum_over xs f)
@@ -10,6 +11,7 @@ unfolding sum_over collect
 IsLaurent-sum_over [] f = refl
 IsLaurent-sum_over (x ∷ xs) f = IsLaurent-plus (f x) (sum_over xs f)
 
+-- over joined lists
 pub sum_over-append : {X : Type 0} (xs ys : List X) (f : X → Laurent) →
     sum_over (xs ++ ys) f ≡ plus (sum_over xs f) (sum_over ys f)
 unfolding sum_over
@@ -17,12 +19,14 @@ sum_over-append [] ys f = sym (nought_plus (sum_over ys f) (IsLaurent-sum_over y
 sum_over-append (x ∷ xs) ys f =
     ap (plus (f x)) (sum_over-append xs ys f) ∙ sym (plus_assoc (f x) (sum_over xs f) (sum_over ys f))
 
+-- with equal polynomials
 pub sum_over-alike : {X : Type 0} (xs : List X) (f g : X → Laurent) → AllByRecursion (λ x. f x ≡ g x) xs →
     sum_over xs f ≡ sum_over xs g
 unfolding sum_over
 sum_over-alike [] f g h = refl
 sum_over-alike (x ∷ xs) f g (h, hs) = ap₂ (λ p q. plus p q) h (sum_over-alike xs f g hs)
 
+-- over a list of lists, one after the other
 pub sum_over-flat : {X Y : Type 0} (f : X → List Y) (xs : List X) (g : Y → Laurent) →
     sum_over (flat_map f xs) g ≡ sum_over xs (λ x. sum_over (f x) g)
 unfolding sum_over
@@ -36,19 +40,17 @@ unfolding sum_over
 sum_over-map h [] g = refl
 sum_over-map h (x ∷ xs) g = ap (plus (g (h x))) (sum_over-map h xs g)
 
+-- a factor goes into the sum
 pub times-sum_over : {X : Type 0} (p : Laurent) (xs : List X) (f : X → Laurent) →
     times p (sum_over xs f) ≡ sum_over xs (λ x. times p (f x))
 unfolding sum_over
 times-sum_over p [] f = times_nought p
 times-sum_over p (x ∷ xs) f = times_plus p (f x) (sum_over xs f) ∙ ap (plus (times p (f x))) (times-sum_over p xs f)
 
+-- exponents add up
 pub power-times : (a b : ℤ) → times (power a) (power b) ≡ power (a +ℤ b)
 unfolding times products collect add_term
 power-times a b = refl
-
-nil_or_not : (p : Laurent) → (p ≡ []) ⊎ (p ≢ [])
-nil_or_not [] = inl refl
-nil_or_not (t ∷ p) = inr (λ e. cc)
 
 -- a sum that is not 0 has a term that is not 0
 pub nonzero_term : {X : Type 0} (P : X → Type 0) (xs : List X) (f : X → Laurent) → AllByRecursion P xs →

@@ -1,5 +1,6 @@
 -- What holds over every run of the core machine.
-use Rattle.std.specs.Prelude.{◌≡◌, ◌≢◌, ℕ, ◌+◌, ◌*◌, ◌<◌, ◌≤◌, ◌⊎◌, ◌↔◌, Bool, true, false, List, [], ◌∷◌, length, slice_get, slice_index}
+use Rattle.std.specs.Prelude.{◌≡◌, ◌≢◌, ℕ, ◌+◌, ◌*◌, ◌<◌, ◌≤◌, ◌⊎◌, ◌↔◌, Bool, true, false, List, [], ◌∷◌, length}
+use Rattle.std.specs.Prelude.{slice_get, slice_index}
 use Rattle.std.specs.List.{sum_by, count_by}
 use Rattle.std.specs.declared.option.Option.{Option}
 use Rattle.std.specs.declared.option.Option.TheVariants.{None, Some}
@@ -148,7 +149,8 @@ NamedCanMove s = (w : ℕ) → GoesOn s.workers w → CanMove s w
 -- Each row is done or lost once all workers have ended.
 abbrev pub EndsSettled : World → Type 0
 EndsSettled s =
-    AllEnded s.workers → (k : ℕ) → k < length s.rows → (slice_get s.rows k ≡ Some Done) ⊎ (slice_get s.rows k ≡ Some Lost)
+    AllEnded s.workers → (k : ℕ) → k < length s.rows
+    → (slice_get s.rows k ≡ Some Done) ⊎ (slice_get s.rows k ≡ Some Lost)
 
 -- ---- few changes
 

@@ -6,7 +6,7 @@ ghost use Rattle.sp_lang.specs.Words.{digits_value, number_of};
 use itoa::Buffer;
 
 /// The number that a word says, where it is below 256.
-pub fn small_number(word: &[u8]) -> Option<u8>
+pub(crate) fn small_number(word: &[u8]) -> Option<u8>
     ensures { result ≡ small (number_of word.now) }
 {
     if word.len() > 3 {

@@ -3,7 +3,7 @@ ghost use Rattle.std.specs.Prelude.{◌≡◌, ◌==◌, ◌∷◌, [], MatchOpt
 ghost use Rattle.sp_lang.specs.Words.{words};
 
 /// The text up to the first space, and what stands behind that space. None where there is no space.
-pub fn split_word(text: &[u8]) -> Option<(&[u8], &[u8])>
+pub(crate) fn split_word(text: &[u8]) -> Option<(&[u8], &[u8])>
     ensures { MatchOption result (words text.now ≡ text.now ∷ []) (λ p. words text.now ≡ p.0.now ∷ words p.1.now) }
 {
     match first_space(text) {

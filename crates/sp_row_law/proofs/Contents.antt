@@ -1,5 +1,6 @@
--- What occurs in a regular row, and the partitions of its shares, have the content of its partition.
-use Rattle.std.proofs.Common.{◌≡◌, ◌≢◌, ℕ, List, [], ◌∷◌, refl, sym, ◌∙◌, ap, ap₂, ◌⊎◌, inl, inr}
+-- The partitions that occur in a regular row, and those of its shares, have the content of its partition: a sum that is
+-- not 0 has a term that is not 0, and there the ladder law of contents applies.
+use Rattle.std.proofs.Common.{◌≡◌, ◌≢◌, ℕ, List, [], ◌∷◌, refl, ◌∙◌, ap, ap₂, ◌⊎◌, inl, inr}
 use Rattle.std.specs.List.{AllByRecursion}
 use Rattle.sp_defs.specs.Partition.{degree, regulars, IsRegularOf}
 use Rattle.sp_defs.specs.Laurent.{Laurent, collect, plus, negate, times, lift, sum_over}
@@ -8,16 +9,13 @@ use Rattle.sp_defs.specs.Row.{Factors, combination, before, factors, factor_of, 
 use Rattle.sp_defs.specs.Statements.{IsLabel, SameContent, RowContentLaw}
 use Rattle.sp_algebra.proofs.Laws.{times_nought, nought_times, nought_plus}
 use Rattle.sp_algebra.proofs.Sums.{nonzero_term}
-use Rattle.sp_shapes.proofs.Order.{all_kept}
+use Rattle.sp_lists.proofs.Elements.{all_both, nil_or_not}
+use Rattle.sp_shapes.proofs.Order.{all_mono}
+use Rattle.sp_shapes.proofs.Before.{all_kept}
 use Rattle.sp_shapes.proofs.Listing.{all_regulars}
 use Rattle.sp_ladder_law.proofs.Contents.{ladder_content}
 
-keep_factor : (e : ℕ) (mu : List ℕ) (fs : Factors) → AllByRecursion (λ f. IsLabel e f.0) fs →
-    AllByRecursion (λ f. f.1 ≢ [] → SameContent e mu f.0) fs →
-    AllByRecursion (λ f. IsLabel e f.0 × (f.1 ≢ [] → SameContent e mu f.0)) fs
-keep_factor e mu [] h k = tt
-keep_factor e mu (f ∷ fs) (h, hs) (k, ks) = ((h, k), keep_factor e mu fs hs ks)
-
+-- a combination of ladder vectors whose factors have mu's content, where they are not 0
 combination_content : (e : ℕ) (mu : List ℕ) (fs : Factors) → AllByRecursion (λ f. IsLabel e f.0) fs →
     AllByRecursion (λ f. f.1 ≢ [] → SameContent e mu f.0) fs → (lambda : List ℕ) →
     combination (ladder_vector e) fs lambda ≢ [] → SameContent e mu lambda
@@ -25,13 +23,16 @@ unfolding combination
 combination_content e mu fs h k lambda ne =
     from
     (nonzero_term (λ f. IsLabel e f.0 × (f.1 ≢ [] → SameContent e mu f.0)) fs
-    (λ f. times f.1 (ladder_vector e f.0 lambda)) (keep_factor e mu fs h k) ne)
+    (λ f. times f.1 (ladder_vector e f.0 lambda))
+    (all_both (λ f. IsLabel e f.0) (λ f. f.1 ≢ [] → SameContent e mu f.0) fs h k) ne)
   where
     from : (f : List ℕ × Laurent) × (IsLabel e f.0 × (f.1 ≢ [] → SameContent e mu f.0)) ×
         (times f.1 (ladder_vector e f.0 lambda) ≢ []) → SameContent e mu lambda
     from (f, (l, s), nz) i =
         s (λ z. nz (ap (λ b. times b (ladder_vector e f.0 lambda)) z ∙ nought_times (ladder_vector e f.0 lambda))) i
         ∙ ladder_content e f.0 l lambda (λ z. nz (ap (times f.1) z ∙ times_nought f.1)) i
+
+-- ---- what 0 gives
 
 negate_nought : negate [] ≡ []
 unfolding negate collect
@@ -40,6 +41,12 @@ negate_nought = refl
 lift_nought : lift [] ≡ []
 unfolding lift collect
 lift_nought = refl
+
+collect_nought : collect [] ≡ []
+unfolding collect
+collect_nought = refl
+
+-- ---- the factors of a row
 
 labels-factors : (e : ℕ) (mu : List ℕ) (seg : List (List ℕ)) → IsLabel e mu → AllByRecursion (IsLabel e) seg →
     AllByRecursion (λ f. IsLabel e f.0) (factors (ladder_vector e) mu seg)
@@ -64,13 +71,7 @@ factor_content e nu kappa between h hs ne = combination_content e kappa (factors
     (labels-factors e kappa between h hs) (content-factors e kappa between h hs) nu
     (λ z. ne (ap (λ p. negate (lift p)) z ∙ ap negate lift_nought ∙ negate_nought))
 
-collect_nought : collect [] ≡ []
-unfolding collect
-collect_nought = refl
-
-nil_or_not : (p : Laurent) → (p ≡ []) ⊎ (p ≢ [])
-nil_or_not [] = inl refl
-nil_or_not (t ∷ p) = inr (λ e. cc)
+-- ---- the shares
 
 labels-shares : (e : ℕ) (mu : List ℕ) (seg : List (List ℕ)) → AllByRecursion (IsLabel e) seg →
     AllByRecursion (λ a. IsLabel e a.0) (shares_over (ladder_vector e) mu seg)
@@ -99,7 +100,7 @@ content-shares e mu (nu ∷ seg) h (k, ks) =
     settle ne (inr nz) ih = factor_content e nu mu seg h ks nz
     settle ne (inl z) ih = from (nonzero_term (λ a. IsLabel e a.0 × (a.1 ≢ [] → SameContent e mu a.0)) s
         (λ a. times a.1 (factor_of (ladder_vector e) nu a.0 (before a.0 seg)))
-        (keep_factor e mu s (labels-shares e mu seg ks) ih)
+        (all_both (λ a. IsLabel e a.0) (λ a. a.1 ≢ [] → SameContent e mu a.0) s (labels-shares e mu seg ks) ih)
         (λ w. ne (ap₂ (λ x y. negate (plus x y)) z w ∙ ap negate (nought_plus [] collect_nought) ∙ negate_nought)))
       where
         from : (a : List ℕ × Laurent) × (IsLabel e a.0 × (a.1 ≢ [] → SameContent e mu a.0)) ×
@@ -113,6 +114,8 @@ content-shares e mu (nu ∷ seg) h (k, ks) =
             ∙ factor_content e nu a.0 (before a.0 seg) l (all_kept (IsLabel e) a.0 seg ks)
             (λ z. nz (ap (times a.1) z ∙ times_nought a.1)) i
 
+-- ---- the law
+
 pub row_content_law : RowContentLaw
 unfolding regular_row shares
 row_content_law e mu h = record {
@@ -125,10 +128,7 @@ row_content_law e mu h = record {
     seg = before mu (regulars e (degree mu))
 
     good : AllByRecursion (IsLabel e) seg
-    good =
-        all_kept (IsLabel e) mu (regulars e (degree mu)) (labels (regulars e (degree mu)) (all_regulars e (degree mu)))
-      where
-        labels : (xs : List (List ℕ)) → AllByRecursion (IsRegularOf e (degree mu)) xs → AllByRecursion (IsLabel e) xs
-        labels [] g = tt
-        labels (x ∷ xs) (g, gs) =
-            (record { e_least = h.e_least; partition = g.partition; regular = g.regular }, labels xs gs)
+    good = all_kept (IsLabel e) mu (regulars e (degree mu))
+        (all_mono (IsRegularOf e (degree mu)) (IsLabel e) (regulars e (degree mu))
+        (λ nu g. record { e_least = h.e_least; partition = g.partition; regular = g.regular })
+        (all_regulars e (degree mu)))

@@ -1,8 +1,9 @@
--- The law of rows: the ladder vectors are a triangle, so the algebra of triangles applies.
+-- The law of rows: by the ladder law the ladder vectors of the e-regular partitions are a triangle, since dominance
+-- implies the lexicographic order. So the algebra of triangles gives the regular row, its uniqueness, and the shares.
 use Rattle.sp_algebra.proofs.Sums.{sum_over-alike}
-use Rattle.std.proofs.Common.{◌≡◌, ◌≢◌, ℕ, suc, ◌<◌, ◌≤◌, true, false, cond, List, [], ◌∷◌, ◌++◌, map, filter, take}
+use Rattle.std.proofs.Common.{◌≡◌, ◌≢◌, ℕ, suc, ◌<◌, ◌≤◌, List, [], ◌∷◌, ◌++◌, map, take}
 use Rattle.std.proofs.Common.{refl, sym, ◌∙◌, ap, ap₂, subst, arith, sum, ◌⊎◌, inl, inr, Ordering, Less, Equal, Greater}
-use Rattle.std.proofs.Common.{nat_cmp, is_lt, is_gt, ℤ, pos, ◌≤ℤ◌}
+use Rattle.std.proofs.Common.{nat_cmp, ℤ, pos, ◌≤ℤ◌}
 use Rattle.std.specs.List.{AllByRecursion}
 use Rattle.std.specs.Ordering.{MatchOrdering, ordering_then}
 use Rattle.std.specs.Cmp.{ranks}
@@ -14,20 +15,24 @@ use Rattle.sp_defs.specs.Power.{Vector}
 use Rattle.sp_defs.specs.Ladder.{ladder_vector}
 use Rattle.sp_defs.specs.Row.{Factors, combination, before, factors, shares_over, regular_row, shares, InSpan}
 use Rattle.sp_defs.specs.Statements.{IsLabel, PositiveElsewhere, RowFacts, RowsLaw}
-use Rattle.sp_lists.proofs.Elements.{all_append}
+use Rattle.std.proofs.Common.{append_assoc}
+use Rattle.std.proofs.lemmas.List.{map-append}
+use Rattle.sp_lists.proofs.Elements.{all_append, all_both, nil_or_not}
+use Rattle.sp_shapes.proofs.Order.{less_trans, equal_self, same_lists, all_mono}
+use Rattle.sp_shapes.proofs.Before.{all_before, all_kept, Ascending-before, before_before, after, kept_after, IsCut}
+use Rattle.sp_shapes.proofs.Before.{about}
 use Rattle.sp_algebra.proofs.Laws.{plus_nought, nought_plus, nought_times, bar_invariant-nought}
 use Rattle.sp_triangle.proofs.Triangle.{Triangle, combination-append, IsLaurent-combination, keys-factors}
 use Rattle.sp_triangle.proofs.Triangle.{invariant-factors, row_at_mu, row_later, row_positive, same_factors}
-use Rattle.sp_shapes.proofs.Order.{later_than, less_trans, equal_self, same_lists, before_keep, before_self, all_before}
-use Rattle.sp_shapes.proofs.Order.{all_kept, all_mono, before_before}
 use Rattle.sp_triangle.proofs.Shares.{rows, keys-shares, invariant-shares, from_keys, shares_sum, only_shares}
-use Rattle.sp_shapes.proofs.Listing.{Occurs, all_regulars, each_regular, regulars_ascend}
+use Rattle.sp_shapes.proofs.Listing.{all_regulars, each_regular, regulars_ascend}
 use Rattle.sp_ladder_law.proofs.Chains.{IsLaurent-chain_sum}
 use Rattle.sp_ladder_law.proofs.LadderLaw.{ladder_law}
 use Rattle.sp_shapes.proofs.Diagram.{IsPartition-tail, IsPartition-head}
 
 -- ---- dominance implies the lexicographic order
 
+-- a partition with greater first sums is not earlier
 not_lower : (xs ys : List ℕ) → IsPartition ys → ((k : ℕ) → sum (take k ys) ≤ sum (take k xs)) → compare xs ys ≢ Less
 not_lower [] [] py f e = cc
 not_lower [] (y ∷ ys) py f e =
@@ -52,10 +57,6 @@ not_lower (x ∷ xs) (y ∷ ys) py f e = settle (nat_cmp x y) (ranks x y) (not_l
 
 -- ---- the ladder vectors are a triangle
 
-nil_or_not : (p : Laurent) → (p ≡ []) ⊎ (p ≢ [])
-nil_or_not [] = inl refl
-nil_or_not (t ∷ p) = inr (λ e. cc)
-
 label : (e n : ℕ) (nu : List ℕ) → 2 ≤ e → IsRegularOf e n nu → IsLabel e nu
 label e n nu he h = record { e_least = he; partition = h.partition; regular = h.regular }
 
@@ -76,69 +77,6 @@ ladder_triangle e n he = record {
 pub IsLaurent-ladder_vector : (e : ℕ) (nu lambda : List ℕ) → IsLaurent (ladder_vector e nu lambda)
 unfolding ladder_vector
 IsLaurent-ladder_vector e nu lambda = IsLaurent-chain_sum e _ lambda
-
--- ---- a list about one of its partitions
-
-abbrev after : List ℕ → List (List ℕ) → List (List ℕ)
-after mu rs = filter (λ nu. is_gt (compare nu mu)) rs
-
-after_all : (mu : List ℕ) (rs : List (List ℕ)) → AllByRecursion (λ nu. compare mu nu ≡ Less) rs → after mu rs ≡ rs
-after_all mu [] h = refl
-after_all mu (nu ∷ rs) (h, hs) =
-    ap (λ o. cond (is_gt o) (nu ∷ after mu rs) (after mu rs)) (later_than mu nu h)
-    ∙ ap (λ r. nu ∷ r) (after_all mu rs hs)
-
-at_occurs : (P : List ℕ → Type 0) (x : List ℕ) (xs : List (List ℕ)) → Occurs x xs → AllByRecursion P xs → P x
-at_occurs P x (y ∷ xs) (inl e) (h, hs) = subst P (sym e) h
-at_occurs P x (y ∷ xs) (inr o) (h, hs) = at_occurs P x xs o hs
-at_occurs P x [] o h = absurd o
-
-about : (mu : List ℕ) (rs : List (List ℕ)) → Ascending rs → Occurs mu rs →
-    (rs ≡ before mu rs ++ (mu ∷ after mu rs)) × AllByRecursion (λ nu. compare mu nu ≡ Less) (after mu rs)
-about mu [] up o = absurd o
-about mu (y ∷ rs) (u, us) (inl e) =
-    let u' : AllByRecursion (λ nu. compare mu nu ≡ Less) rs =
-    subst (λ w. AllByRecursion (λ nu. compare w nu ≡ Less) rs) (sym e) u in
-    subst
-    (λ w.
-    (w ∷ rs ≡ before mu (w ∷ rs) ++ (mu ∷ after mu (w ∷ rs))) ×
-    AllByRecursion (λ nu. compare mu nu ≡ Less) (after mu (w ∷ rs))) e
-    (let b : before mu (mu ∷ rs) ≡ [] = before_self mu rs u' in
-    let a : after mu (mu ∷ rs) ≡ rs =
-    ap (λ o. cond (is_gt o) (mu ∷ after mu rs) (after mu rs)) (equal_self mu) ∙ after_all mu rs u' in
-    (sym (ap₂ (λ x z. x ++ (mu ∷ z)) b a), subst (λ z. AllByRecursion (λ nu. compare mu nu ≡ Less) z) (sym a) u'))
-about mu (y ∷ rs) (u, us) (inr o) = step (about mu rs us o)
-  where
-    lt : compare y mu ≡ Less
-    lt = at_occurs (λ x. compare y x ≡ Less) mu rs o u
-
-    a : after mu (y ∷ rs) ≡ after mu rs
-    a = ap (λ o. cond (is_gt o) (y ∷ after mu rs) (after mu rs)) lt
-
-    step : (rs ≡ before mu rs ++ (mu ∷ after mu rs)) × AllByRecursion (λ nu. compare mu nu ≡ Less) (after mu rs) →
-        (y ∷ rs ≡ before mu (y ∷ rs) ++ (mu ∷ after mu (y ∷ rs))) ×
-        AllByRecursion (λ nu. compare mu nu ≡ Less) (after mu (y ∷ rs))
-    step (eq, gt) = (
-      ap (λ r. y ∷ r) eq ∙ sym (ap₂ (λ x z. x ++ (mu ∷ z)) (before_keep y mu rs lt) a),
-      subst (λ z. AllByRecursion (λ nu. compare mu nu ≡ Less) z) (sym a) gt,
-    )
-
-kept_after : (P : List ℕ → Type 0) (mu : List ℕ) (rs : List (List ℕ)) → AllByRecursion P rs →
-    AllByRecursion P (after mu rs)
-kept_after P mu [] h = tt
-kept_after P mu (nu ∷ rs) (h, hs) = elim (is_gt (compare nu mu)) as (λ b.
-    AllByRecursion P (cond b (nu ∷ after mu rs) (after mu rs))) [
-      | true ↦ (h, kept_after P mu rs hs)
-      | false ↦ kept_after P mu rs hs
-    ]
-
-Ascending-before : (mu : List ℕ) (rs : List (List ℕ)) → Ascending rs → Ascending (before mu rs)
-Ascending-before mu [] h = tt
-Ascending-before mu (nu ∷ rs) (h, hs) = elim (is_lt (compare nu mu)) as (λ b.
-    Ascending (cond b (nu ∷ before mu rs) (before mu rs))) [
-      | true ↦ (all_kept (λ x. compare nu x ≡ Less) mu rs h, Ascending-before mu rs hs)
-      | false ↦ Ascending-before mu rs hs
-    ]
 
 -- ---- factors that are 0
 
@@ -161,17 +99,7 @@ combination-zeros A [] lambda = refl
 combination-zeros A (nu ∷ rs) lambda =
     ap₂ (λ a b. plus a b) (nought_times (A nu lambda)) (combination-zeros A rs lambda) ∙ nought_plus [] refl
 
-keys-append : (fs gs : Factors) → map (λ f. f.0) (fs ++ gs) ≡ map (λ f. f.0) fs ++ map (λ f. f.0) gs
-keys-append [] gs = refl
-keys-append (f ∷ fs) gs = ap (λ r. f.0 ∷ r) (keys-append fs gs)
-
-snoc_cons : (xs : List (List ℕ)) (y : List ℕ) (zs : List (List ℕ)) → (xs ++ (y ∷ [])) ++ zs ≡ xs ++ (y ∷ zs)
-snoc_cons [] y zs = refl
-snoc_cons (x ∷ xs) y zs = ap (λ r. x ∷ r) (snoc_cons xs y zs)
-
-all_every : {X : Type 0} (P : X → Type 0) (xs : List X) → ((x : X) → P x) → AllByRecursion P xs
-all_every P [] f = tt
-all_every P (x ∷ xs) f = (f x, all_every P xs f)
+-- ---- one at mu, and positive powers elsewhere, leave the coefficients up to the power 0
 
 agree_all : (v w : Vector) (mu : List ℕ) (rs : List (List ℕ)) → v mu ≡ one → w mu ≡ one →
     AllByRecursion (λ nu. nu ≢ mu → IsPositive (v nu)) rs → AllByRecursion (λ nu. nu ≢ mu → IsPositive (w nu)) rs →
@@ -189,156 +117,167 @@ agree_all v w mu (nu ∷ rs) a b (p, ps) (q, qs) = (here (compare nu mu) refl, a
     here Less e j low = let ne : nu ≢ mu = other Less e (λ z. cc) in p ne j low ∙ sym (q ne j low)
     here Greater e j low = let ne : nu ≢ mu = other Greater e (λ z. cc) in p ne j low ∙ sym (q ne j low)
 
-module _ (e : ℕ) (mu : List ℕ) (is : IsLabel e mu) where
-  n : ℕ
-  n = degree mu
+-- ---- the row of one label
 
-  rs : List (List ℕ)
+module _ (e : ℕ) (mu : List ℕ) (is : IsLabel e mu) where
+  abbrev Good : List ℕ → Type 0
+  Good = IsRegularOf e (degree mu)
+
+  abbrev A : List ℕ → Vector
+  A = ladder_vector e
+
+  -- the e-regular partitions of mu's degree: those before mu, mu, and those after it
+  abbrev rs : List (List ℕ)
   rs = regulars e (degree mu)
 
-  seg : List (List ℕ)
-  seg = before mu (regulars e (degree mu))
+  abbrev seg : List (List ℕ)
+  seg = before mu rs
 
-  tri : Triangle (IsRegularOf e (degree mu)) (ladder_vector e)
+  abbrev past : List (List ℕ)
+  past = after mu rs
+
+  tri : Triangle Good A
   tri = ladder_triangle e (degree mu) is.e_least
 
-  good : IsRegularOf e (degree mu) mu
+  good : Good mu
   good = record { partition = is.partition; total = refl; regular = is.regular }
 
-  good_seg : AllByRecursion (IsRegularOf e (degree mu)) (before mu (regulars e (degree mu)))
-  good_seg = all_kept (IsRegularOf e (degree mu)) mu (regulars e (degree mu)) (all_regulars e (degree mu))
+  good_seg : AllByRecursion Good seg
+  good_seg = all_kept Good mu rs (all_regulars e (degree mu))
 
-  parts : (regulars e (degree mu) ≡ before mu (regulars e (degree mu)) ++ (mu ∷ after mu (regulars e (degree mu)))) ×
-      AllByRecursion (λ nu. compare mu nu ≡ Less) (after mu (regulars e (degree mu)))
-  parts = about mu (regulars e (degree mu)) (regulars_ascend e (degree mu)) (each_regular e (degree mu) mu good)
+  good_past : AllByRecursion Good past
+  good_past = kept_after Good mu rs (all_regulars e (degree mu))
+
+  seg_ascends : Ascending seg
+  seg_ascends = Ascending-before mu rs (regulars_ascend e (degree mu))
+
+  cut_at_mu : IsCut mu rs
+  cut_at_mu = about mu rs (regulars_ascend e (degree mu)) (each_regular e (degree mu) mu good)
+
+  -- ---- the row is in the span: its factors, and 0 after mu
 
   full : Factors
-  full = factors (ladder_vector e) mu (before mu (regulars e (degree mu))) ++ zeros (after mu (regulars e (degree mu)))
+  full = factors A mu seg ++ zeros past
 
-  full_keys : map (λ f. f.0) full ≡ regulars e (degree mu)
+  full_keys : map (λ f. f.0) full ≡ rs
   unfolding full
   full_keys =
-      keys-append (factors (ladder_vector e) mu (before mu (regulars e (degree mu))))
-      (zeros (after mu (regulars e (degree mu))))
-      ∙ ap₂ (λ x y. x ++ y) (keys-factors (ladder_vector e) mu (before mu (regulars e (degree mu))))
-      (keys-zeros (after mu (regulars e (degree mu))))
-      ∙ snoc_cons (before mu (regulars e (degree mu))) mu (after mu (regulars e (degree mu))) ∙ sym parts.0
+      map-append (λ f. f.0) (factors A mu seg) (zeros past)
+      ∙ ap₂ (λ x y. x ++ y) (keys-factors A mu seg) (keys-zeros past)
+      ∙ append_assoc seg (mu ∷ []) past
+      ∙ sym cut_at_mu.whole
 
   full_invariant : AllByRecursion (λ f. IsBarInvariant f.1) full
   unfolding full
-  full_invariant = all_append (λ f. IsBarInvariant f.1)
-      (factors (ladder_vector e) mu (before mu (regulars e (degree mu)))) (zeros (after mu (regulars e (degree mu))))
-      (invariant-factors (ladder_vector e) mu (before mu (regulars e (degree mu))))
-      (invariant-zeros (after mu (regulars e (degree mu))))
+  full_invariant = all_append (λ f. IsBarInvariant f.1) (factors A mu seg) (zeros past)
+      (invariant-factors A mu seg) (invariant-zeros past)
 
-  full_row : (lambda : List ℕ) → regular_row e mu lambda ≡ combination (ladder_vector e) full lambda
+  full_row : (lambda : List ℕ) → regular_row e mu lambda ≡ combination A full lambda
   unfolding full regular_row
-  full_row lambda = sym (
-      combination-append (ladder_vector e) (factors (ladder_vector e) mu (before mu (regulars e (degree mu))))
-      (zeros (after mu (regulars e (degree mu)))) lambda
-      ∙ ap
-      (plus
-      (combination (ladder_vector e) (factors (ladder_vector e) mu (before mu (regulars e (degree mu))))
-      lambda)) (combination-zeros (ladder_vector e) (after mu (regulars e (degree mu))) lambda)
-      ∙ plus_nought
-      (combination (ladder_vector e) (factors (ladder_vector e) mu (before mu (regulars e (degree mu)))) lambda)
-      (IsLaurent-combination (ladder_vector e) (factors (ladder_vector e) mu (before mu (regulars e (degree mu))))
-      lambda))
+  full_row lambda = sym
+      (combination-append A (factors A mu seg) (zeros past) lambda
+      ∙ ap (plus (combination A (factors A mu seg) lambda)) (combination-zeros A past lambda)
+      ∙ plus_nought (combination A (factors A mu seg) lambda) (IsLaurent-combination A (factors A mu seg) lambda))
+
+  -- ---- 1 at mu, and positive powers at the others
 
   own : regular_row e mu mu ≡ one
   unfolding regular_row
-  own = row_at_mu (IsRegularOf e (degree mu)) (ladder_vector e) tri mu (before mu (regulars e (degree mu))) good
-      good_seg (all_before mu (regulars e (degree mu)))
+  own = row_at_mu Good A tri mu seg good good_seg (all_before mu rs)
+
+  later_nought : (nu : List ℕ) → Good nu → compare mu nu ≡ Less → regular_row e mu nu ≡ []
+  unfolding regular_row
+  later_nought nu g h = row_later Good A tri mu seg nu good good_seg g h
+      (all_mono (λ x. compare x mu ≡ Less) (λ x. compare x nu ≡ Less) seg (λ x k. less_trans x mu nu k h)
+      (all_before mu rs))
 
   positive : PositiveElsewhere e mu (regular_row e mu)
   unfolding regular_row coefficient
-  positive = subst (λ xs. AllByRecursion (λ nu. nu ≢ mu → IsPositive (regular_row e mu nu)) xs) (sym parts.0)
-      (all_append (λ nu. nu ≢ mu → IsPositive (regular_row e mu nu)) (before mu (regulars e (degree mu)))
-      (mu ∷ after mu (regulars e (degree mu)))
-      (all_mono (λ nu. IsPositive (regular_row e mu nu)) (λ nu. nu ≢ mu → IsPositive (regular_row e mu nu))
-      (before mu (regulars e (degree mu))) (λ nu p _. p)
-      (row_positive (IsRegularOf e (degree mu)) (ladder_vector e) tri mu (before mu (regulars e (degree mu))) good
-      good_seg (Ascending-before mu (regulars e (degree mu)) (regulars_ascend e (degree mu))))) (
-        (λ ne. absurd (ne refl)),
-        later_all (after mu (regulars e (degree mu)))
-            (kept_after (IsRegularOf e (degree mu)) mu (regulars e (degree mu)) (all_regulars e (degree mu))) parts.1,
-      ))
+  positive = subst (AllByRecursion Elsewhere) (sym cut_at_mu.whole)
+      (all_append Elsewhere seg (mu ∷ past) earlier ((λ ne. absurd (ne refl)), later))
     where
-      later_all : (xs : List (List ℕ)) → AllByRecursion (IsRegularOf e (degree mu)) xs →
-          AllByRecursion (λ nu. compare mu nu ≡ Less) xs →
-          AllByRecursion (λ nu. nu ≢ mu → IsPositive (regular_row e mu nu)) xs
-      later_all [] g h = tt
-      later_all (nu ∷ xs) (g, gs) (h, hs) = (
-        (λ _. subst (λ p. IsPositive p) (sym (row_later (IsRegularOf e (degree mu)) (ladder_vector e) tri mu
-            (before mu (regulars e (degree mu))) nu good good_seg g h
-            (all_mono (λ x. compare x mu ≡ Less) (λ x. compare x nu ≡ Less) (before mu (regulars e (degree mu)))
-            (λ x k. less_trans x mu nu k h) (all_before mu (regulars e (degree mu)))))) (λ j low. refl)),
-        later_all xs gs hs,
-      )
+      Elsewhere : List ℕ → Type 0
+      Elsewhere nu = nu ≢ mu → IsPositive (regular_row e mu nu)
+
+      earlier : AllByRecursion Elsewhere seg
+      earlier = all_mono (λ nu. IsPositive (regular_row e mu nu)) Elsewhere seg (λ nu p _. p)
+          (row_positive Good A tri mu seg good good_seg seg_ascends)
+
+      later : AllByRecursion Elsewhere past
+      later = all_mono (λ nu. Good nu × (compare mu nu ≡ Less)) Elsewhere past
+          (λ nu k _. subst (λ p. IsPositive p) (sym (later_nought nu k.0 k.1)) (λ j low. refl))
+          (all_both Good (λ nu. compare mu nu ≡ Less) past good_past cut_at_mu.later)
+
+  -- ---- no other vector of the span is like it
 
   only_row : (w : Vector) → InSpan e (degree mu) w → w mu ≡ one → PositiveElsewhere e mu w → (lambda : List ℕ) →
       IsPartition lambda → w lambda ≡ regular_row e mu lambda
   only_row w span at_mu pos_ lambda pl =
-      span.sum lambda pl ∙ ap (λ fs. combination (ladder_vector e) fs lambda) same ∙ sym (full_row lambda)
+      span.sum lambda pl ∙ ap (λ fs. combination A fs lambda) same ∙ sym (full_row lambda)
     where
-      same : span.factors_of ≡ full
-      same = same_factors (IsRegularOf e (degree mu)) (ladder_vector e) tri (regulars e (degree mu)) span.factors_of
-          full (all_regulars e (degree mu)) (regulars_ascend e (degree mu)) span.keys full_keys span.invariant
-          full_invariant
-          (agree_on (regulars e (degree mu)) (all_regulars e (degree mu))
-          (agree_all w (regular_row e mu) mu (regulars e (degree mu)) at_mu own pos_ positive))
-        where
-          agree_on : (xs : List (List ℕ)) → AllByRecursion (IsRegularOf e (degree mu)) xs →
-              AllByRecursion (λ nu. (j : ℤ) → j ≤ℤ pos 0 → coefficient (w nu) j ≡ coefficient (regular_row e mu nu) j)
-              xs →
-              AllByRecursion
-              (λ nu. (j : ℤ) → j ≤ℤ pos 0 →
-              coefficient (combination (ladder_vector e) span.factors_of nu) j
-              ≡ coefficient (combination (ladder_vector e) full nu) j) xs
-          agree_on [] g h = tt
-          agree_on (nu ∷ xs) (g, gs) (h, hs) = (
-            (λ j low.
-                ap (λ x. coefficient x j) (sym (span.sum nu g.partition))
-                ∙ h j low
-                ∙ ap (λ x. coefficient x j) (full_row nu)),
-            agree_on xs gs hs,
-          )
+      Agree : Laurent → Laurent → Type 0
+      Agree p q = (j : ℤ) → j ≤ℤ pos 0 → coefficient p j ≡ coefficient q j
 
-  -- the rows of the list are the regular rows
-  row_same : (kappa lambda : List ℕ) → IsRegularOf e (degree mu) kappa → compare kappa mu ≡ Less →
-      rows (ladder_vector e) (before mu (regulars e (degree mu))) kappa lambda ≡ regular_row e kappa lambda
+      rows_agree : AllByRecursion (λ nu. Agree (w nu) (regular_row e mu nu)) rs
+      rows_agree = agree_all w (regular_row e mu) mu rs at_mu own pos_ positive
+
+      combinations_agree : (nu : List ℕ) → Good nu × Agree (w nu) (regular_row e mu nu) →
+          Agree (combination A span.factors_of nu) (combination A full nu)
+      combinations_agree nu (g, a) j low =
+          ap (λ x. coefficient x j) (sym (span.sum nu g.partition))
+          ∙ a j low
+          ∙ ap (λ x. coefficient x j) (full_row nu)
+
+      same : span.factors_of ≡ full
+      same = same_factors Good A tri rs span.factors_of full (all_regulars e (degree mu))
+          (regulars_ascend e (degree mu)) span.keys full_keys span.invariant full_invariant
+          (all_mono (λ nu. Good nu × Agree (w nu) (regular_row e mu nu))
+          (λ nu. Agree (combination A span.factors_of nu) (combination A full nu)) rs combinations_agree
+          (all_both Good (λ nu. Agree (w nu) (regular_row e mu nu)) rs (all_regulars e (degree mu)) rows_agree))
+
+  -- ---- the rows of the triangle are the regular rows
+
+  row_same : (kappa lambda : List ℕ) → Good kappa → compare kappa mu ≡ Less →
+      rows A seg kappa lambda ≡ regular_row e kappa lambda
   unfolding regular_row
   row_same kappa lambda g lt =
-      ap (λ s. combination (ladder_vector e) (factors (ladder_vector e) kappa s) lambda)
-      (before_before kappa mu (regulars e (degree mu)) lt ∙ ap (λ d. before kappa (regulars e d)) (sym g.total))
+      ap (λ s. combination A (factors A kappa s) lambda)
+      (before_before kappa mu rs lt ∙ ap (λ d. before kappa (regulars e d)) (sym g.total))
 
-  rows_same : (fs : Factors) (lambda : List ℕ) → AllByRecursion (λ f. IsRegularOf e (degree mu) f.0) fs →
-      AllByRecursion (λ f. compare f.0 mu ≡ Less) fs →
-      combination (rows (ladder_vector e) (before mu (regulars e (degree mu)))) fs lambda
-      ≡ combination (regular_row e) fs lambda
+  -- so any factors with the keys of the shares give the same with either
+  keyed_same : (fs : Factors) (lambda : List ℕ) → map (λ f. f.0) fs ≡ seg →
+      combination (rows A seg) fs lambda ≡ combination (regular_row e) fs lambda
   unfolding combination
-  rows_same fs lambda g h = sum_over-alike fs _ _ (each fs g h)
+  keyed_same fs lambda k = sum_over-alike fs _ _
+      (all_mono (λ f. Good f.0 × (compare f.0 mu ≡ Less))
+      (λ f. times f.1 (rows A seg f.0 lambda) ≡ times f.1 (regular_row e f.0 lambda)) fs
+      (λ f h. ap (times f.1) (row_same f.0 lambda h.0 h.1))
+      (all_both (λ f. Good f.0) (λ f. compare f.0 mu ≡ Less) fs (by_keys Good good_seg)
+      (by_keys (λ x. compare x mu ≡ Less) (all_before mu rs))))
     where
-      each : (fs : Factors) → AllByRecursion (λ f. IsRegularOf e (degree mu) f.0) fs →
-          AllByRecursion (λ f. compare f.0 mu ≡ Less) fs →
-          AllByRecursion
-          (λ f. times f.1 (rows (ladder_vector e) (before mu (regulars e (degree mu))) f.0 lambda)
-          ≡ times f.1 (regular_row e f.0 lambda)) fs
-      each [] g h = tt
-      each (f ∷ fs) (g, gs) (h, hs) = (ap (times f.1) (row_same f.0 lambda g h), each fs gs hs)
+      by_keys : (P : List ℕ → Type 0) → AllByRecursion P seg → AllByRecursion (λ f. P f.0) fs
+      by_keys P h = from_keys P fs (subst (λ ks. AllByRecursion P ks) (sym k) h)
 
-  by_keys : (P : List ℕ → Type 0) (fs : Factors) → map (λ f. f.0) fs ≡ before mu (regulars e (degree mu)) →
-      AllByRecursion P (before mu (regulars e (degree mu))) → AllByRecursion (λ f. P f.0) fs
-  by_keys P fs k h = from_keys P fs (subst (λ ks. AllByRecursion P ks) (sym k) h)
+  shares_give_back : (lambda : List ℕ) →
+      A mu lambda ≡ plus (regular_row e mu lambda) (combination (regular_row e) (shares e mu) lambda)
+  unfolding regular_row shares
+  shares_give_back lambda = sym
+      (ap (plus (combination A (factors A mu seg) lambda))
+      (sym (keyed_same (shares_over A mu seg) lambda (keys-shares A mu seg)))
+      ∙ shares_sum A (IsLaurent-ladder_vector e) mu seg lambda seg_ascends)
 
-  keyed_same : (fs : Factors) (lambda : List ℕ) → map (λ f. f.0) fs ≡ before mu (regulars e (degree mu)) →
-      combination (rows (ladder_vector e) (before mu (regulars e (degree mu)))) fs lambda
-      ≡ combination (regular_row e) fs lambda
-  keyed_same fs lambda k = rows_same fs lambda (by_keys (IsRegularOf e (degree mu)) fs k good_seg)
-      (by_keys (λ x. compare x mu ≡ Less) fs k (all_before mu (regulars e (degree mu))))
+  only_these : (others : Factors) → map (λ a. a.0) others ≡ seg → AllByRecursion (λ a. IsBarInvariant a.1) others →
+      ((lambda : List ℕ) → IsPartition lambda →
+      A mu lambda ≡ plus (regular_row e mu lambda) (combination (regular_row e) others lambda)) →
+      others ≡ shares e mu
+  unfolding regular_row shares
+  only_these others k b f =
+      only_shares Good A tri (IsLaurent-ladder_vector e) mu seg good_seg seg_ascends others k b
+      (λ lambda g.
+      ap (plus (combination A (factors A mu seg) lambda)) (keyed_same others lambda k) ∙ sym (f lambda g.partition))
 
   pub row_facts : RowFacts e mu
-  unfolding regular_row shares
+  unfolding shares
   row_facts = record {
     in_span =
         record { factors_of = full; keys = full_keys; invariant = full_invariant; sum = λ lambda _. full_row lambda };
@@ -346,26 +285,11 @@ module _ (e : ℕ) (mu : List ℕ) (is : IsLabel e mu) where
     elsewhere = positive;
     only = only_row;
     row_is = λ w r. only_row w r.in_span r.at_mu
-        (all_mono (IsRegularOf e (degree mu)) (λ nu. nu ≢ mu → IsPositive (w nu)) (regulars e (degree mu))
-        (λ nu g. r.elsewhere nu g.partition) (all_regulars e (degree mu)));
-    shares_invariant = invariant-shares (ladder_vector e) mu (before mu (regulars e (degree mu)));
-    shares_sum = λ lambda. sym (ap
-        (plus
-        (combination (ladder_vector e) (factors (ladder_vector e) mu (before mu (regulars e (degree mu)))) lambda))
-        (sym
-        (keyed_same (shares_over (ladder_vector e) mu (before mu (regulars e (degree mu)))) lambda
-        (keys-shares (ladder_vector e) mu (before mu (regulars e (degree mu))))))
-        ∙ shares_sum (ladder_vector e) (IsLaurent-ladder_vector e) mu (before mu (regulars e (degree mu))) lambda
-        (Ascending-before mu (regulars e (degree mu)) (regulars_ascend e (degree mu))));
-    shares_only = λ others k b f. only_shares (IsRegularOf e (degree mu)) (ladder_vector e) tri
-        (IsLaurent-ladder_vector e) mu (before mu (regulars e (degree mu))) good_seg
-        (Ascending-before mu (regulars e (degree mu)) (regulars_ascend e (degree mu))) others k b
-        (λ lambda g.
-        ap
-        (plus
-        (combination (ladder_vector e) (factors (ladder_vector e) mu (before mu (regulars e (degree mu))))
-        lambda)) (keyed_same others lambda k)
-        ∙ sym (f lambda g.partition));
+        (all_mono Good (λ nu. nu ≢ mu → IsPositive (w nu)) rs (λ nu g. r.elsewhere nu g.partition)
+        (all_regulars e (degree mu)));
+    shares_invariant = invariant-shares A mu seg;
+    shares_sum = shares_give_back;
+    shares_only = only_these;
   }
 
 pub rows_law : RowsLaw

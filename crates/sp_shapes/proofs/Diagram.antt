@@ -1,4 +1,6 @@
--- The nodes of a diagram.
+-- The nodes of a diagram: a fact of each node, by rows or by the list; membership; the part of the list that a smaller
+-- diagram has; equal rows make equal partitions; and the number of nodes.
+-- Rows in lists are counted from 0 (`slice_index parts k`), rows of nodes from 1 (`part parts r`).
 use Rattle.std.proofs.Common.{◌≡◌, ℕ, zero, suc, ◌+◌, ◌-◌, ◌<◌, ◌≤◌, min, Bool, true, false, cond, ◌&&◌, List, [], ◌∷◌}
 use Rattle.std.proofs.Common.{◌++◌, map, filter, length, refl, sym, ◌∙◌, ap, ap₂, subst, arith, sum, nat_le}
 use Rattle.std.proofs.Common.{slice_index, le-leb, leb-true, leb-false}
@@ -24,8 +26,9 @@ IsPartition-tail p parts h = record {
 pub IsPartition-head : (p : ℕ) (parts : List ℕ) → IsPartition (p ∷ parts) → 0 < p
 IsPartition-head p parts h = h.positive 0 0 (omega arith)
 
--- ---- rows
+-- ---- a fact of each node
 
+-- of the first n places of a row, and back
 row_all : (P : Node → Type 0) (r n : ℕ) → ((c : ℕ) → 1 ≤ c → c ≤ n → P (r, c)) →
     AllByRecursion P (map (λ c. (r, c)) (from_one_to n))
 row_all P r n f =
@@ -35,6 +38,7 @@ row_at : (P : Node → Type 0) (r n : ℕ) → AllByRecursion P (map (λ c. (r, 
     c ≤ n → P (r, c)
 row_at P r n h c lo hi = range_at (λ c. P (r, c)) 1 n (map_all P (λ c. (r, c)) (from_one_to n) h) c lo (omega arith)
 
+-- of the rows from r on, and back
 pub nodes_all : (P : Node → Type 0) (r : ℕ) (parts : List ℕ) →
     ((k c : ℕ) → 1 ≤ c → c ≤ slice_index parts k → P (r + k, c)) → AllByRecursion P (nodes_from r parts)
 unfolding nodes_from
@@ -65,7 +69,7 @@ nodes_at P r (p ∷ parts) h (suc k) c lo hi = subst (λ n. P (n, c)) (moved r k
     moved : (r k : ℕ) → suc r + k ≡ r + suc k
     moved r k = omega arith
 
--- ---- membership
+-- ---- membership: the test, as inequalities
 
 pub in_node : (parts : List ℕ) (r c : ℕ) → 1 ≤ r → 1 ≤ c → c ≤ part parts r → in_diagram parts (r, c) ≡ true
 in_node parts r c hr hc h = and_join (nat_le 1 r) (nat_le 1 c && nat_le c (part parts r)) (le-leb 1 r hr)
@@ -87,7 +91,7 @@ node_out parts r c hr hc h =
     leb-false c (part parts r)
     (sym (ap₂ (λ a b. a && (b && nat_le c (part parts r))) (le-leb 1 r hr) (le-leb 1 c hc)) ∙ h)
 
--- each node of a diagram, from a test of each in the list, and back
+-- a fact of each node in the list, as one of each row and column of the diagram, and back
 pub at_node : (P : Node → Type 0) (parts : List ℕ) → AllByRecursion P (nodes parts) → (r c : ℕ) → 1 ≤ r → 1 ≤ c →
     c ≤ part parts r → P (r, c)
 at_node P parts h r c hr hc w = subst (λ n. P (n, c)) (back r hr) (nodes_at P 1 parts h (r - 1) c hc w)
@@ -103,41 +107,43 @@ all_nodes P parts f =
     back : (k : ℕ) → k ≡ 1 + k - 1
     back k = omega arith
 
--- ---- counting: the nodes of a part of the diagram
+-- ---- a smaller diagram's nodes in the list of a larger one
 
+-- n places of row r, from column a on
+abbrev places : ℕ → ℕ → ℕ → List Node
+places r a n = map (λ c. (r, c)) (range_with_len a n)
+
+-- a test that passes the columns up to q
 filter_row : (t : Node → Bool) (r q a n : ℕ) → 1 ≤ a → ((c : ℕ) → a ≤ c → c < a + n → t (r, c) ≡ nat_le c q) →
-    filter t (map (λ c. (r, c)) (range_with_len a n)) ≡ map (λ c. (r, c)) (range_with_len a (min n (q + 1 - a)))
-filter_row t r q a zero ha f = ap (λ m. map (λ c. (r, c)) (range_with_len a m)) (none q a)
+    filter t (places r a n) ≡ places r a (min n (q + 1 - a))
+filter_row t r q a zero ha f = ap (places r a) (none q a)
   where
     none : (q a : ℕ) → 0 ≡ min 0 (q + 1 - a)
     none q a = omega arith
 filter_row t r q a (suc n) ha f =
-    elim (nat_le a q) as (λ b. nat_le a q ≡ b →
-    filter t (map (λ c. (r, c)) (range_with_len a (suc n)))
-    ≡ map (λ c. (r, c)) (range_with_len a (min (suc n) (q + 1 - a)))) [
-      | true ↦ λ e. let le : a ≤ q = leb-true a q e in
-          ap (λ b. cond b ((r, a) ∷ rest) rest) (f a (omega arith) (omega arith) ∙ e)
-          ∙ ap (λ w. (r, a) ∷ w) (filter_row t r q (a + 1) n (omega arith) (λ c lo hi. f c (omega arith) (omega arith)))
-          ∙ ap (λ m. map (λ c. (r, c)) (range_with_len a m)) (one_more q a n le)
-      | false ↦ λ e. let gt : q < a = leb-false a q e in
-          ap (λ b. cond b ((r, a) ∷ rest) rest) (f a (omega arith) (omega arith) ∙ e)
-          ∙ filter_row t r q (a + 1) n (omega arith) (λ c lo hi. f c (omega arith) (omega arith))
-          ∙ ap (λ m. map (λ c. (r, c)) (range_with_len (a + 1) m)) (no_more q a n gt)
-          ∙ ap (λ m. map (λ c. (r, c)) (range_with_len a m)) (sym (no_more' q a n gt))
-    ] refl
+    ap (λ b. cond b ((r, a) ∷ filter t (places r (a + 1) n)) (filter t (places r (a + 1) n)))
+    (f a (omega arith) (omega arith))
+    ∙ tested (nat_le a q) refl (filter_row t r q (a + 1) n (omega arith) (λ c lo hi. f c (omega arith) (omega arith)))
   where
-    rest : List Node
-    rest = filter t (map (λ c. (r, c)) (range_with_len (a + 1) n))
-
     one_more : (q a n : ℕ) → a ≤ q → suc (min n (q + 1 - (a + 1))) ≡ min (suc n) (q + 1 - a)
     one_more q a n h = omega arith
 
     no_more : (q a n : ℕ) → q < a → min n (q + 1 - (a + 1)) ≡ 0
     no_more q a n h = omega arith
 
-    no_more' : (q a n : ℕ) → q < a → min (suc n) (q + 1 - a) ≡ 0
+    no_more' : (q a n : ℕ) → q < a → 0 ≡ min (suc n) (q + 1 - a)
     no_more' q a n h = omega arith
 
+    tested : (b : Bool) → nat_le a q ≡ b →
+        filter t (places r (a + 1) n) ≡ places r (a + 1) (min n (q + 1 - (a + 1))) →
+        cond b ((r, a) ∷ filter t (places r (a + 1) n)) (filter t (places r (a + 1) n))
+        ≡ places r a (min (suc n) (q + 1 - a))
+    tested true e ih = ap (λ w. (r, a) ∷ w) ih ∙ ap (places r a) (one_more q a n (leb-true a q e))
+    tested false e ih =
+        let gt : q < a = leb-false a q e in
+        ih ∙ ap (places r (a + 1)) (no_more q a n gt) ∙ ap (places r a) (no_more' q a n gt)
+
+-- a test that passes the nodes of the smaller diagram gives their list
 pub keep_filter : (t : Node → Bool) (r : ℕ) (inner outer : List ℕ) →
     ((k c : ℕ) → 1 ≤ c → c ≤ slice_index outer k → t (r + k, c) ≡ nat_le c (slice_index inner k)) →
     ((k : ℕ) → slice_index inner k ≤ slice_index outer k) → IsPartition inner →
@@ -146,13 +152,8 @@ unfolding nodes_from
 keep_filter t r [] [] f h pi = refl
 keep_filter t r (q ∷ inner) [] f h pi = let z : q ≤ 0 = h 0 in absurd (omega (arith, IsPartition-head q inner pi))
 keep_filter t r [] (p ∷ outer) f h pi =
-    filter_append t (map (λ c. (r, c)) (from_one_to p)) (nodes_from (suc r) outer)
-    ∙ ap₂ (λ x y. x ++ y)
-    (filter_row t r 0 1 p (omega arith)
-    (λ c lo hi. subst (λ n. t (n, c) ≡ nat_le c 0) (plus_zero r) (f 0 c lo (omega arith)))
-    ∙ ap (λ m. map (λ c. (r, c)) (range_with_len 1 m)) (empty p))
-    (keep_filter t (suc r) [] outer (λ k c lo hi. subst (λ n. t (n, c) ≡ nat_le c 0) (moved r k) (f (suc k) c lo hi))
-    (λ k. h (suc k)) pi)
+    filter_append t (places r 1 p) (nodes_from (suc r) outer)
+    ∙ ap₂ (λ x y. x ++ y) first_row (keep_filter t (suc r) [] outer next_rows (λ k. h (suc k)) pi)
   where
     plus_zero : (r : ℕ) → r + 0 ≡ r
     plus_zero r = omega arith
@@ -162,15 +163,19 @@ keep_filter t r [] (p ∷ outer) f h pi =
 
     empty : (p : ℕ) → min p (0 + 1 - 1) ≡ 0
     empty p = omega arith
+
+    first_row : filter t (places r 1 p) ≡ []
+    first_row =
+        filter_row t r 0 1 p (omega arith)
+        (λ c lo hi. subst (λ n. t (n, c) ≡ nat_le c 0) (plus_zero r) (f 0 c lo (omega arith)))
+        ∙ ap (places r 1) (empty p)
+
+    next_rows : (k c : ℕ) → 1 ≤ c → c ≤ slice_index outer k → t (suc r + k, c) ≡ nat_le c 0
+    next_rows k c lo hi = subst (λ n. t (n, c) ≡ nat_le c 0) (moved r k) (f (suc k) c lo hi)
 keep_filter t r (q ∷ inner) (p ∷ outer) f h pi =
-    filter_append t (map (λ c. (r, c)) (from_one_to p)) (nodes_from (suc r) outer)
-    ∙ ap₂ (λ x y. x ++ y)
-    (filter_row t r q 1 p (omega arith)
-    (λ c lo hi. subst (λ n. t (n, c) ≡ nat_le c q) (plus_zero r) (f 0 c lo (omega arith)))
-    ∙ ap (λ m. map (λ c. (r, c)) (range_with_len 1 m)) (least q p (h 0)))
-    (keep_filter t (suc r) inner outer
-    (λ k c lo hi. subst (λ n. t (n, c) ≡ nat_le c (slice_index inner k)) (moved r k) (f (suc k) c lo hi))
-    (λ k. h (suc k)) (IsPartition-tail q inner pi))
+    filter_append t (places r 1 p) (nodes_from (suc r) outer)
+    ∙ ap₂ (λ x y. x ++ y) first_row
+    (keep_filter t (suc r) inner outer next_rows (λ k. h (suc k)) (IsPartition-tail q inner pi))
   where
     plus_zero : (r : ℕ) → r + 0 ≡ r
     plus_zero r = omega arith
@@ -180,6 +185,17 @@ keep_filter t r (q ∷ inner) (p ∷ outer) f h pi =
 
     least : (q p : ℕ) → q ≤ p → min p (q + 1 - 1) ≡ q
     least q p h = omega arith
+
+    first_row : filter t (places r 1 p) ≡ places r 1 q
+    first_row =
+        filter_row t r q 1 p (omega arith)
+        (λ c lo hi. subst (λ n. t (n, c) ≡ nat_le c q) (plus_zero r) (f 0 c lo (omega arith)))
+        ∙ ap (places r 1) (least q p (h 0))
+
+    next_rows : (k c : ℕ) → 1 ≤ c → c ≤ slice_index outer k → t (suc r + k, c) ≡ nat_le c (slice_index inner k)
+    next_rows k c lo hi = subst (λ n. t (n, c) ≡ nat_le c (slice_index inner k)) (moved r k) (f (suc k) c lo hi)
+
+-- ---- equal rows, and the number of nodes
 
 -- two partitions with the same rows are one list
 pub same_rows : (xs ys : List ℕ) → IsPartition xs → IsPartition ys → ((k : ℕ) → slice_index xs k ≡ slice_index ys k) →

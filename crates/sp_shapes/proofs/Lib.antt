@@ -7,3 +7,5 @@ pub mod Regular
 pub mod Grow
 pub mod Within
 pub mod Degrees
+pub mod Before
+pub mod Corners

@@ -1,4 +1,5 @@
--- The list of all partitions of n: each is one, each is there, and they ascend.
+-- The list of all partitions of n: each entry is one, each partition occurs, and they ascend. So too the e-regular
+-- ones. The list is made of blocks: the partitions with exactly k parts m, for each k.
 use Rattle.std.proofs.Common.{◌≡◌, ℕ, zero, suc, ◌+◌, ◌-◌, ◌*◌, ◌/◌, ◌<◌, ◌≤◌, Bool, true, false, cond, nat_eq, List}
 use Rattle.std.proofs.Common.{[], ◌∷◌, ◌++◌, map, filter, flat_map, replicate, length, refl, sym, ◌∙◌, ap, ap₂, subst}
 use Rattle.std.proofs.Common.{arith, sum, slice_index, ◌⊎◌, inl, inr, eqb-true, eq-eqb, lt-ltb, Less, Equal, Greater}
@@ -8,17 +9,25 @@ use Rattle.std.specs.List.{AllByRecursion, range_with_len}
 use Rattle.std.specs.Ordering.{ordering_then}
 use Rattle.std.proofs.lemmas.List.Sums.{sum_by-cons}
 use Rattle.sp_defs.specs.Partition.{IsPartitionOf, IsRegularOf, degree, IsPartition, compare, partitions}
-use Rattle.sp_defs.specs.Partition.{partitions_within, is_regular, regulars, Ascending}
-use Rattle.sp_lists.proofs.Elements.{all_append, all_map, all_flat, all_filter, range_all, le_or_lt}
+use Rattle.sp_defs.specs.Partition.{partitions_within, is_regular, regulars, Ascending, IsEarlier}
+use Rattle.sp_lists.proofs.Elements.{all_append, all_every, all_map, all_flat, all_filter, range_all, le_or_lt}
 use Rattle.sp_shapes.proofs.Order.{all_mono}
 use Rattle.sp_shapes.proofs.Diagram.{IsPartition-tail, IsPartition-head}
 
 -- ---- occurrence
 
+-- x is one of the elements
 abbrev pub Occurs : {X : Type 0} → X → List X → Type 0
 Occurs x [] = ⊥
 Occurs x (y ∷ ys) = (x ≡ y) ⊎ Occurs x ys
 
+-- what holds of each element holds of one that occurs
+pub at_occurs : {X : Type 0} (P : X → Type 0) (x : X) (xs : List X) → Occurs x xs → AllByRecursion P xs → P x
+at_occurs P x (y ∷ xs) (inl e) (h, hs) = subst P (sym e) h
+at_occurs P x (y ∷ xs) (inr o) (h, hs) = at_occurs P x xs o hs
+at_occurs P x [] o h = absurd o
+
+-- in joined, mapped, nested and filtered lists, and in ranges
 pub occurs_left : {X : Type 0} (x : X) (xs ys : List X) → Occurs x xs → Occurs x (xs ++ ys)
 occurs_left x (y ∷ xs) ys (inl e) = inl e
 occurs_left x (y ∷ xs) ys (inr h) = inr (occurs_left x xs ys h)
@@ -44,10 +53,11 @@ pub occurs_filter : {X : Type 0} (t : X → Bool) (x : X) (xs : List X) → t x 
 occurs_filter t x [] e h = absurd h
 occurs_filter t x (y ∷ xs) e (inl s) =
     subst (λ b. Occurs x (cond b (y ∷ filter t xs) (filter t xs))) (sym (ap t (sym s) ∙ e)) (inl s)
-occurs_filter t x (y ∷ xs) e (inr h) = elim (t y) as (λ b. Occurs x (cond b (y ∷ filter t xs) (filter t xs))) [
-  | true ↦ inr (occurs_filter t x xs e h)
-  | false ↦ occurs_filter t x xs e h
-]
+occurs_filter t x (y ∷ xs) e (inr h) = tested (t y) (occurs_filter t x xs e h)
+  where
+    tested : (b : Bool) → Occurs x (filter t xs) → Occurs x (cond b (y ∷ filter t xs) (filter t xs))
+    tested true o = inr o
+    tested false o = o
 
 pub occurs_range : (c a n : ℕ) → a ≤ c → c < a + n → Occurs c (range_with_len a n)
 occurs_range c a zero lo hi = absurd (omega arith)
@@ -58,14 +68,14 @@ occurs_range c a (suc n) lo hi = step (occurs_range c (a + 1) n) (eq-or-lt_of_le
     step more (inl e) = inl (sym e)
     step more (inr l) = inr (more (omega arith) (omega arith))
 
--- ---- one more part
+-- ---- the empty partition, and one part more in front
 
 pub IsPartition-nil : IsPartition []
 IsPartition-nil = record { descending = λ k. omega arith; positive = λ k d h. absurd (omega arith) }
 
 pub IsPartition-cons : (p : ℕ) (parts : List ℕ) → 0 < p → slice_index parts 0 ≤ p → IsPartition parts →
     IsPartition (p ∷ parts)
-IsPartition-cons p parts hp hd h = record { descending = down; positive = pos_ }
+IsPartition-cons p parts hp hd h = record { descending = down; positive = above_0 }
   where
     down : (k : ℕ) → slice_index (p ∷ parts) (k + 1) ≤ slice_index (p ∷ parts) k
     down zero = hd
@@ -74,16 +84,27 @@ IsPartition-cons p parts hp hd h = record { descending = down; positive = pos_ }
         moved : (k : ℕ) → suc (k + 1) ≡ suc k + 1
         moved k = omega arith
 
-    pos_ : (k : ℕ) (d : ℕ) → k < length (p ∷ parts) → 0 < lib.ListN.get_or (p ∷ parts) k d
-    pos_ zero d lt = hp
-    pos_ (suc k) d lt = h.positive k d (omega arith)
+    above_0 : (k : ℕ) (d : ℕ) → k < length (p ∷ parts) → 0 < lib.ListN.get_or (p ∷ parts) k d
+    above_0 zero d lt = hp
+    above_0 (suc k) d lt = h.positive k d (omega arith)
 
--- a partition with parts at most m, of degree n
+-- ---- each entry of the list is a partition
+
+-- a partition of n with parts at most m
 pub record Fits (m n : ℕ) (parts : List ℕ) : Type 0 where
   pub partition : IsPartition parts
   pub within : slice_index parts 0 ≤ m
   pub total : sum parts ≡ n
 
+-- with k parts p in front
+abbrev with_block : ℕ → ℕ → List ℕ → List ℕ
+with_block k p rest = replicate k p ++ rest
+
+-- the partitions of n with parts at most m + 1, k of which are m + 1
+abbrev blocks : ℕ → ℕ → ℕ → List (List ℕ)
+blocks m n k = map (with_block k (suc m)) (partitions_within m (n - k * suc m))
+
+-- k parts p in front of smaller ones
 block : (k p m n : ℕ) (rest : List ℕ) → 0 < p → m ≤ p → Fits m n rest → Fits p (k * p + n) (replicate k p ++ rest)
 block zero p m n rest hp hm h =
     record { partition = h.partition; within = omega (arith, h.within); total = h.total ∙ none p n }
@@ -103,67 +124,81 @@ block (suc k) p m n rest hp hm h =
 
 pub all_within : (m n : ℕ) → AllByRecursion (Fits m n) (partitions_within m n)
 unfolding partitions_within
-all_within zero n = elim (nat_eq n 0) as (λ b. nat_eq n 0 ≡ b → AllByRecursion (Fits 0 n) (cond b ([] ∷ []) [])) [
-  | true ↦ λ e. (record { partition = IsPartition-nil; within = omega arith; total = sym (eqb-true n 0 e) }, tt)
-  | false ↦ λ e. tt
-] refl
-all_within (suc m) n =
-    all_flat (Fits (suc m) n) (λ k. map (λ rest. replicate k (suc m) ++ rest) (partitions_within m (n - k * suc m)))
-    (range_with_len 0 (n / suc m + 1))
-    (range_all
-    (λ k. AllByRecursion (Fits (suc m) n)
-    (map (λ rest. replicate k (suc m) ++ rest) (partitions_within m (n - k * suc m)))) 0 (n / suc m + 1)
-    (λ k lo hi. all_map (Fits (suc m) n) (λ rest. replicate k (suc m) ++ rest) (partitions_within m (n - k * suc m))
-    (all_mono (Fits m (n - k * suc m)) (λ rest. Fits (suc m) n (replicate k (suc m) ++ rest))
-    (partitions_within m (n - k * suc m))
-    (λ rest h. subst (λ x. Fits (suc m) x (replicate k (suc m) ++ rest))
-    (back k (le_trans (mul-le-mul_right (suc m) (fits k hi)) (div-mul-le_self n (suc m))))
-    (block k (suc m) m (n - k * suc m) rest (omega arith) (omega arith) h))
-    (all_within m (n - k * suc m)))))
+all_within zero n = tested (nat_eq n 0) refl
   where
-    fits : (k : ℕ) → k < 0 + (n / suc m + 1) → k ≤ n / suc m
-    fits k h = omega arith
+    tested : (b : Bool) → nat_eq n 0 ≡ b → AllByRecursion (Fits 0 n) (cond b ([] ∷ []) [])
+    tested true e = (record { partition = IsPartition-nil; within = omega arith; total = sym (eqb-true n 0 e) }, tt)
+    tested false e = tt
+all_within (suc m) n =
+    all_flat (Fits (suc m) n) (blocks m n) (range_with_len 0 (n / suc m + 1))
+    (range_all (λ k. AllByRecursion (Fits (suc m) n) (blocks m n k)) 0 (n / suc m + 1)
+    (λ k lo hi. one_block k (omega arith) (all_within m (n - k * suc m))))
+  where
+    fits : (k : ℕ) → k ≤ n / suc m → k * suc m + (n - k * suc m) ≡ n
+    fits k few = back (le_trans (mul-le-mul_right (suc m) few) (div-mul-le_self n (suc m)))
+      where
+        back : k * suc m ≤ n → k * suc m + (n - k * suc m) ≡ n
+        back h = omega arith
 
-    back : (k : ℕ) → k * suc m ≤ n → k * suc m + (n - k * suc m) ≡ n
-    back k h = omega arith
+    one : (k : ℕ) → k ≤ n / suc m → (rest : List ℕ) → Fits m (n - k * suc m) rest →
+        Fits (suc m) n (with_block k (suc m) rest)
+    one k few rest h = subst (λ x. Fits (suc m) x (with_block k (suc m) rest)) (fits k few)
+        (block k (suc m) m (n - k * suc m) rest (omega arith) (omega arith) h)
 
--- ---- each partition is there
+    one_block : (k : ℕ) → k ≤ n / suc m →
+        AllByRecursion (Fits m (n - k * suc m)) (partitions_within m (n - k * suc m)) →
+        AllByRecursion (Fits (suc m) n) (blocks m n k)
+    one_block k few h = all_map (Fits (suc m) n) (with_block k (suc m)) (partitions_within m (n - k * suc m))
+        (all_mono (Fits m (n - k * suc m)) (λ rest. Fits (suc m) n (with_block k (suc m) rest))
+        (partitions_within m (n - k * suc m)) (one k few) h)
 
-strip : (m : ℕ) (parts : List ℕ) → IsPartition parts → slice_index parts 0 ≤ suc m →
-    (k : ℕ) × (rest : List ℕ) × (parts ≡ replicate k (suc m) ++ rest) × Fits m (sum rest) rest ×
-    (sum parts ≡ k * suc m + sum rest)
-strip m [] h w = (0, [], refl, record { partition = h; within = omega arith; total = refl }, omega arith)
+-- ---- each partition occurs
+
+-- the parts m + 1 of a partition, and the rest of it
+record Stripped (m : ℕ) (parts : List ℕ) : Type 0 where
+  count : ℕ
+  rest : List ℕ
+  split : parts ≡ with_block count (suc m) rest
+  fits : Fits m (sum rest) rest
+  total : sum parts ≡ count * suc m + sum rest
+
+strip : (m : ℕ) (parts : List ℕ) → IsPartition parts → slice_index parts 0 ≤ suc m → Stripped m parts
+strip m [] h w = record {
+  count = 0;
+  rest = [];
+  split = refl;
+  fits = record { partition = h; within = omega arith; total = refl };
+  total = omega arith;
+}
 strip m (p ∷ parts) h w = settle (strip m parts (IsPartition-tail p parts h)) (le_or_lt p m)
   where
     down : slice_index parts 0 ≤ p
     down = h.descending 0
 
-    settle : (slice_index parts 0 ≤ suc m →
-        (k : ℕ) × (rest : List ℕ) × (parts ≡ replicate k (suc m) ++ rest) × Fits m (sum rest) rest ×
-        (sum parts ≡ k * suc m + sum rest)) → (p ≤ m) ⊎ (m < p) →
-        (k : ℕ) × (rest : List ℕ) × (p ∷ parts ≡ replicate k (suc m) ++ rest) × Fits m (sum rest) rest ×
-        (sum (p ∷ parts) ≡ k * suc m + sum rest)
-    settle more (inl l) =
-        (0, p ∷ parts, refl, record { partition = h; within = l; total = refl }, none (sum (p ∷ parts)))
+    settle : (slice_index parts 0 ≤ suc m → Stripped m parts) → (p ≤ m) ⊎ (m < p) → Stripped m (p ∷ parts)
+    settle more (inl l) = record {
+      count = 0;
+      rest = p ∷ parts;
+      split = refl;
+      fits = record { partition = h; within = l; total = refl };
+      total = none (sum (p ∷ parts));
+    }
       where
         none : (x : ℕ) → x ≡ 0 * suc m + x
         none x = omega arith
-    settle more (inr g) = joined (more (omega (arith, down, w)))
+    settle more (inr g) = one_more (more (omega (arith, down, w)))
       where
         is : p ≡ suc m
         is = omega (arith, w)
 
-        joined : (k : ℕ) × (rest : List ℕ) × (parts ≡ replicate k (suc m) ++ rest) × Fits m (sum rest) rest ×
-            (sum parts ≡ k * suc m + sum rest) →
-            (k : ℕ) × (rest : List ℕ) × (p ∷ parts ≡ replicate k (suc m) ++ rest) × Fits m (sum rest) rest ×
-            (sum (p ∷ parts) ≡ k * suc m + sum rest)
-        joined (k, rest, e, f, t) = (
-          suc k,
-          rest,
-          ap₂ (λ x y. x ∷ y) is e,
-          f,
-          sum_by-cons (λ x. x) p parts ∙ ap₂ (λ x y. x + y) is t ∙ sides m k (sum rest),
-        )
+        one_more : Stripped m parts → Stripped m (p ∷ parts)
+        one_more s = record {
+          count = suc s.count;
+          rest = s.rest;
+          split = ap₂ (λ x y. x ∷ y) is s.split;
+          fits = s.fits;
+          total = sum_by-cons (λ x. x) p parts ∙ ap₂ (λ x y. x + y) is s.total ∙ sides m s.count (sum s.rest);
+        }
           where
             sides : (m k s : ℕ) → suc m + (k * suc m + s) ≡ suc k * suc m + s
             sides m k s = omega arith
@@ -175,21 +210,17 @@ each_within zero n [] h =
 each_within zero n (p ∷ parts) h = absurd (omega (arith, IsPartition-head p parts h.partition, h.within))
 each_within (suc m) n parts h = place (strip m parts h.partition h.within) (each_within m)
   where
-    place : (k : ℕ) × (rest : List ℕ) × (parts ≡ replicate k (suc m) ++ rest) × Fits m (sum rest) rest ×
-        (sum parts ≡ k * suc m + sum rest) →
-        ((n : ℕ) (parts : List ℕ) → Fits m n parts → Occurs parts (partitions_within m n)) →
-        Occurs parts
-        (flat_map (λ k. map (λ rest. replicate k (suc m) ++ rest) (partitions_within m (n - k * suc m)))
-        (range_with_len 0 (n / suc m + 1)))
-    place (k, rest, e, f, t) ih =
-        let left : sum rest ≡ n - k * suc m = omega (arith, h.total, t) in
-        let few : k ≤ n / suc m = (le-div_iff_mul-le (zero-lt-suc m)).1 (omega (arith, h.total, t)) in
-        occurs_flat (λ k. map (λ rest. replicate k (suc m) ++ rest) (partitions_within m (n - k * suc m))) k
-        (range_with_len 0 (n / suc m + 1)) parts
-        (occurs_range k 0 (n / suc m + 1) (omega arith) (omega arith))
-        (subst (λ x. Occurs x (map (λ rest. replicate k (suc m) ++ rest) (partitions_within m (n - k * suc m)))) (sym e)
-        (occurs_map (λ rest. replicate k (suc m) ++ rest) rest (partitions_within m (n - k * suc m))
-        (ih (n - k * suc m) rest (subst (λ x. Fits m x rest) left f))))
+    place : Stripped m parts → ((n : ℕ) (parts : List ℕ) → Fits m n parts → Occurs parts (partitions_within m n)) →
+        Occurs parts (flat_map (blocks m n) (range_with_len 0 (n / suc m + 1)))
+    place s ih =
+        let left : sum s.rest ≡ n - s.count * suc m = omega (arith, h.total, s.total) in
+        let few : s.count ≤ n / suc m = (le-div_iff_mul-le (zero-lt-suc m)).1 (omega (arith, h.total, s.total)) in
+        let smaller : Occurs s.rest (partitions_within m (n - s.count * suc m)) = ih (n - s.count * suc m) s.rest
+        (subst (λ x. Fits m x s.rest) left s.fits) in
+        let in_block : Occurs parts (blocks m n s.count) = subst (λ x. Occurs x (blocks m n s.count)) (sym s.split)
+        (occurs_map (with_block s.count (suc m)) s.rest (partitions_within m (n - s.count * suc m)) smaller) in
+        occurs_flat (blocks m n) s.count (range_with_len 0 (n / suc m + 1)) parts
+        (occurs_range s.count 0 (n / suc m + 1) (omega arith) (omega arith)) in_block
 
 -- ---- they ascend
 
@@ -199,6 +230,7 @@ nat_less x y h = ap (λ b. cond b Less (cond (nat_eq x y) Equal Greater)) (lt-lt
 nat_same : (x : ℕ) → nat_cmp x x ≡ Equal
 nat_same x = grind arith
 
+-- fewer parts p in front of smaller ones come earlier
 less_block : (k j p : ℕ) (xs ys : List ℕ) → k < j → slice_index xs 0 < p →
     compare (replicate k p ++ xs) (replicate j p ++ ys) ≡ Less
 less_block zero zero p xs ys h lt = absurd (omega arith)
@@ -210,54 +242,54 @@ less_block (suc k) (suc j) p xs ys h lt =
     ap (λ o. ordering_then o (compare (replicate k p ++ xs) (replicate j p ++ ys))) (nat_same p)
     ∙ less_block k j p xs ys (omega arith) lt
 
+-- equally many are compared by the rest
 same_block : (k p : ℕ) (xs ys : List ℕ) → compare (replicate k p ++ xs) (replicate k p ++ ys) ≡ compare xs ys
 same_block zero p xs ys = refl
 same_block (suc k) p xs ys =
     ap (λ o. ordering_then o (compare (replicate k p ++ xs) (replicate k p ++ ys))) (nat_same p) ∙ same_block k p xs ys
 
+-- two ascending lists, the first before the second
 Ascending-append : (xs ys : List (List ℕ)) → Ascending xs → Ascending ys →
     AllByRecursion (λ x. AllByRecursion (λ y. compare x y ≡ Less) ys) xs → Ascending (xs ++ ys)
 Ascending-append [] ys h k b = k
 Ascending-append (x ∷ xs) ys (h, hs) k (b, bs) =
     (all_append (λ y. compare x y ≡ Less) xs ys h b, Ascending-append xs ys hs k bs)
 
-Ascending-map : (k p : ℕ) (xs : List (List ℕ)) → Ascending xs → Ascending (map (λ rest. replicate k p ++ rest) xs)
+-- a block ascends
+Ascending-map : (k p : ℕ) (xs : List (List ℕ)) → Ascending xs → Ascending (map (with_block k p) xs)
 Ascending-map k p [] h = tt
-Ascending-map k p (x ∷ xs) (h, hs) = (
-  all_map (λ y. compare (replicate k p ++ x) y ≡ Less) (λ rest. replicate k p ++ rest) xs
-      (all_mono (λ y. compare x y ≡ Less) (λ y. compare (replicate k p ++ x) (replicate k p ++ y) ≡ Less) xs
-      (λ y e. same_block k p x y ∙ e) h),
-  Ascending-map k p xs hs,
-)
+Ascending-map k p (x ∷ xs) (h, hs) =
+    (all_map (IsEarlier (with_block k p x)) (with_block k p) xs later, Ascending-map k p xs hs)
+  where
+    later : AllByRecursion (λ y. IsEarlier (with_block k p x) (with_block k p y)) xs
+    later = all_mono (IsEarlier x) (λ y. IsEarlier (with_block k p x) (with_block k p y)) xs
+        (λ y e. same_block k p x y ∙ e) h
 
-all_every : {X : Type 0} (P : X → Type 0) (xs : List X) → ((x : X) → P x) → AllByRecursion P xs
-all_every P [] f = tt
-all_every P (x ∷ xs) f = (f x, all_every P xs f)
+-- the blocks with a, a + 1, .. a + n - 1 parts p, one after the other
+abbrev blocks_from : ℕ → (ℕ → List (List ℕ)) → ℕ → ℕ → List (List ℕ)
+blocks_from p f a n = flat_map (λ k. map (with_block k p) (f k)) (range_with_len a n)
 
 Ascending-blocks : (p : ℕ) (f : ℕ → List (List ℕ)) → ((k : ℕ) → Ascending (f k)) →
-    ((k : ℕ) → AllByRecursion (λ x. slice_index x 0 < p) (f k)) → (a n : ℕ) →
-    Ascending (flat_map (λ k. map (λ rest. replicate k p ++ rest) (f k)) (range_with_len a n))
+    ((k : ℕ) → AllByRecursion (λ x. slice_index x 0 < p) (f k)) → (a n : ℕ) → Ascending (blocks_from p f a n)
 Ascending-blocks p f up low a zero = tt
 Ascending-blocks p f up low a (suc n) =
-    Ascending-append (map (λ rest. replicate a p ++ rest) (f a))
-    (flat_map (λ k. map (λ rest. replicate k p ++ rest) (f k)) (range_with_len (a + 1) n))
+    Ascending-append (map (with_block a p) (f a)) (blocks_from p f (a + 1) n)
     (Ascending-map a p (f a) (up a)) (Ascending-blocks p f up low (a + 1) n)
-    (all_map
-    (λ x. AllByRecursion (λ y. compare x y ≡ Less)
-    (flat_map (λ k. map (λ rest. replicate k p ++ rest) (f k)) (range_with_len (a + 1) n)))
-    (λ rest. replicate a p ++ rest) (f a)
+    (all_map (λ x. AllByRecursion (IsEarlier x) (blocks_from p f (a + 1) n)) (with_block a p) (f a)
     (all_mono (λ x. slice_index x 0 < p)
-    (λ x. AllByRecursion (λ y. compare (replicate a p ++ x) y ≡ Less)
-    (flat_map (λ k. map (λ rest. replicate k p ++ rest) (f k)) (range_with_len (a + 1) n))) (f a)
-    (λ x lt. all_flat (λ y. compare (replicate a p ++ x) y ≡ Less) (λ k. map (λ rest. replicate k p ++ rest) (f k))
-    (range_with_len (a + 1) n)
-    (range_all
-    (λ k. AllByRecursion (λ y. compare (replicate a p ++ x) y ≡ Less) (map (λ rest. replicate k p ++ rest) (f k)))
-    (a + 1) n
-    (λ k lo hi. all_map (λ y. compare (replicate a p ++ x) y ≡ Less) (λ rest. replicate k p ++ rest) (f k)
-    (all_every (λ y. compare (replicate a p ++ x) (replicate k p ++ y) ≡ Less) (f k)
-    (λ y. less_block a k p x y (omega arith) lt)))))
-    (low a)))
+    (λ x. AllByRecursion (IsEarlier (with_block a p x)) (blocks_from p f (a + 1) n)) (f a) before_rest (low a)))
+  where
+    before_block : (x : List ℕ) → slice_index x 0 < p → (k : ℕ) → a < k →
+        AllByRecursion (IsEarlier (with_block a p x)) (map (with_block k p) (f k))
+    before_block x lt k h = all_map (IsEarlier (with_block a p x)) (with_block k p) (f k)
+        (all_every (λ y. IsEarlier (with_block a p x) (with_block k p y)) (f k) (λ y. less_block a k p x y h lt))
+
+    before_rest : (x : List ℕ) → slice_index x 0 < p →
+        AllByRecursion (IsEarlier (with_block a p x)) (blocks_from p f (a + 1) n)
+    before_rest x lt =
+        all_flat (IsEarlier (with_block a p x)) (λ k. map (with_block k p) (f k)) (range_with_len (a + 1) n)
+        (range_all (λ k. AllByRecursion (IsEarlier (with_block a p x)) (map (with_block k p) (f k))) (a + 1) n
+        (λ k lo hi. before_block x lt k (omega arith)))
 
 pub within_ascend : (m n : ℕ) → Ascending (partitions_within m n)
 unfolding partitions_within
@@ -267,7 +299,7 @@ within_ascend (suc m) n =
     (λ k. all_mono (Fits m (n - k * suc m)) (λ x. slice_index x 0 < suc m) (partitions_within m (n - k * suc m))
     (λ x h. omega (arith, h.within)) (all_within m (n - k * suc m))) 0 (n / suc m + 1)
 
--- ---- the partitions of n
+-- ---- the partitions of n, and the e-regular ones
 
 pub all_partitions : (n : ℕ) → AllByRecursion (IsPartitionOf n) (partitions n)
 unfolding partitions
@@ -289,14 +321,14 @@ partitions_ascend n = within_ascend n n
 
 pub Ascending-filter : (t : List ℕ → Bool) (xs : List (List ℕ)) → Ascending xs → Ascending (filter t xs)
 Ascending-filter t [] h = tt
-Ascending-filter t (x ∷ xs) (h, hs) = elim (t x) as (λ b. Ascending (cond b (x ∷ filter t xs) (filter t xs))) [
-  | true ↦ (
-    all_filter (λ y. compare x y ≡ Less) t xs
-        (all_mono (λ y. compare x y ≡ Less) (λ y. t y ≡ true → compare x y ≡ Less) xs (λ y e _. e) h),
-    Ascending-filter t xs hs,
-  )
-  | false ↦ Ascending-filter t xs hs
-]
+Ascending-filter t (x ∷ xs) (h, hs) = tested (t x) (Ascending-filter t xs hs)
+  where
+    later : AllByRecursion (IsEarlier x) (filter t xs)
+    later = all_filter (IsEarlier x) t xs (all_mono (IsEarlier x) (λ y. t y ≡ true → IsEarlier x y) xs (λ y e _. e) h)
+
+    tested : (b : Bool) → Ascending (filter t xs) → Ascending (cond b (x ∷ filter t xs) (filter t xs))
+    tested true rest = (later, rest)
+    tested false rest = rest
 
 pub all_regulars : (e n : ℕ) → AllByRecursion (IsRegularOf e n) (regulars e n)
 unfolding regulars

@@ -1,4 +1,5 @@
--- In an e-regular partition, a node stands on an earlier ladder than the first place right of any higher row.
+-- What e-regularity says of the rows: a part that is not 0 is less than the part e - 1 rows above it. So a node stands
+-- on an earlier ladder than the first place right of any higher row.
 use Rattle.std.proofs.Common.{◌≡◌, ℕ, zero, suc, ◌+◌, ◌-◌, ◌*◌, ◌/◌, ◌%◌, ◌<◌, ◌≤◌, true, cond, List, [], ◌∷◌, length}
 use Rattle.std.proofs.Common.{sym, ap, subst, arith, count_by, nat_eq, nat_lt, slice_index, ◌⊎◌, inl, inr, eq-eqb}
 use Rattle.std.proofs.Common.{ltb-true, mul-le-mul_left, le_trans}
@@ -7,6 +8,7 @@ use Rattle.std.proofs.lemmas.List.Sums.{sum_by-cons, AllPass-from_list_all}
 use Rattle.sp_defs.specs.Partition.{IsPartition, is_regular}
 use Rattle.sp_lists.proofs.Elements.{le_or_lt}
 
+-- n parts that are p, from place i on
 equal_run : (xs : List ℕ) (p i n : ℕ) → 0 < p → ((j : ℕ) → j < n → slice_index xs (i + j) ≡ p) →
     n ≤ count_by (λ q. nat_eq q p) xs
 equal_run xs p i zero hp f = omega arith
@@ -36,11 +38,14 @@ equal_run (x ∷ xs) p (suc i) (suc n) hp f =
     moved : (i j : ℕ) → suc i + j ≡ suc (i + j)
     moved i j = omega arith
 
+-- ---- places
+
 pub index_short : (xs : List ℕ) (k : ℕ) → 0 < slice_index xs k → k < length xs
 index_short [] k h = absurd (omega arith)
 index_short (x ∷ xs) zero h = omega arith
 index_short (x ∷ xs) (suc k) h = let ih : k < length xs = index_short xs k h in omega arith
 
+-- parts descend over any distance
 pub descends : (mu : List ℕ) → IsPartition mu → (i d : ℕ) → slice_index mu (i + d) ≤ slice_index mu i
 descends mu pm i zero = subst (λ n. slice_index mu n ≤ slice_index mu i) (plain i) (omega arith)
   where
@@ -52,6 +57,8 @@ descends mu pm i (suc d) =
   where
     moved : (i d : ℕ) → i + d + 1 ≡ i + suc d
     moved i d = omega arith
+
+-- ---- gaps between rows
 
 -- e rows further down, counted with the first, a part that is not 0 is less
 pub regular_gap : (e : ℕ) (mu : List ℕ) → 1 ≤ e → IsPartition mu → is_regular e mu ≡ true → (i : ℕ) →
@@ -81,6 +88,7 @@ regular_gap e mu he pm reg i h = settle (le_or_lt (slice_index mu i) (slice_inde
             moved : j ≤ e - 1 → i + j + (e - 1 - j) ≡ i + (e - 1)
             moved h = omega arith
 
+-- and d times as far down it is less by d
 pub wide_gap : (e : ℕ) (mu : List ℕ) → 1 ≤ e → IsPartition mu → is_regular e mu ≡ true → (d i k : ℕ) →
     i + d * (e - 1) ≤ k → 0 < slice_index mu k → slice_index mu k + d ≤ slice_index mu i
 wide_gap e mu he pm reg zero i k h w = subst (λ n. n ≤ slice_index mu i) (plain (slice_index mu k))

@@ -1,4 +1,5 @@
--- Residues and ladders agree modulo e.
+-- Residues: neighbouring nodes differ, so do the nodes less than e rows further down in a column or the column before,
+-- and after e - 1 rows there the residue is back. Residues and ladders agree modulo e.
 use Rattle.std.proofs.Common.{◌≡◌, ◌≢◌, ℕ, suc, ◌+◌, ◌-◌, ◌*◌, ◌/◌, ◌%◌, ◌<◌, ◌≤◌, sym, ◌∙◌, ap, ap₂, subst, arith}
 use Rattle.std.proofs.Common.{mul-le-mul_left, ◌⊎◌, inl, inr}
 use native.Mathlib.Nat.{add-mul-mod_self_left, div-add-mod}
@@ -17,6 +18,8 @@ shift_changes e x s lo hi same = compare_quotients (x / e) ((x + s) / e) (div-ad
         below (inl l) = let m : e * p ≤ e * q = mul-le-mul_left e l in omega arith
         below (inr l) = let m : e * suc q ≤ e * p = mul-le-mul_left e l in omega arith
 
+-- ---- neighbours
+
 pub right_differs : (e r c : ℕ) → 2 ≤ e → residue e (r, c + 1) ≢ residue e (r, c)
 right_differs e r c h same = shift_changes e (c + e * r - r) 1 (omega arith) (omega arith)
     (ap (λ n. n % e) (moved e r c (mul-le-mul_left r h)) ∙ same)
@@ -30,6 +33,41 @@ below_differs e r c h same = shift_changes e (c + e * r - r) (e - 1) (omega arit
   where
     moved : (e r c : ℕ) → 2 ≤ e → r * 2 ≤ r * e → c + e * r - r + (e - 1) ≡ c + e * (r + 1) - (r + 1)
     moved e r c h k = omega arith
+
+-- ---- further down in the column, and in the column before
+
+pub same_column : (e r c j : ℕ) → 2 ≤ e → 0 < j → j < e → residue e (r + j, c) ≢ residue e (r, c)
+same_column e r c j he lo hi same =
+    shift_changes e (c + e * (r + j) - (r + j)) j lo hi
+    (ap (λ n. n % e) (sides e r c j (mul-le-mul_left r he) (mul-le-mul_left j he))
+    ∙ add-mul-mod_self_left (c + e * r - r) e j
+    ∙ sym same)
+  where
+    sides : (e r c j : ℕ) → r * 2 ≤ r * e → j * 2 ≤ j * e → c + e * (r + j) - (r + j) + j ≡ c + e * r - r + e * j
+    sides e r c j h k = omega arith
+
+pub column_before : (e r c j : ℕ) → 2 ≤ e → 1 ≤ c → j + 1 < e → residue e (r + j, c - 1) ≢ residue e (r, c)
+column_before e r c j he hc hi same =
+    shift_changes e (c - 1 + e * (r + j) - (r + j)) (j + 1) (omega arith) hi
+    (ap (λ n. n % e) (sides e r c j hc (mul-le-mul_left r he) (mul-le-mul_left j he))
+    ∙ add-mul-mod_self_left (c + e * r - r) e j
+    ∙ sym same)
+  where
+    sides : (e r c j : ℕ) → 1 ≤ c → r * 2 ≤ r * e → j * 2 ≤ j * e →
+        c - 1 + e * (r + j) - (r + j) + (j + 1) ≡ c + e * r - r + e * j
+    sides e r c j hc h k = omega arith
+
+pub full_turn : (e r c : ℕ) → 2 ≤ e → 1 ≤ c → residue e (r + (e - 1), c - 1) ≡ residue e (r, c)
+full_turn e r c he hc =
+    sym (add-mul-mod_self_left (c - 1 + e * (r + (e - 1)) - (r + (e - 1))) e 1)
+    ∙ ap (λ n. n % e) (sides (e - 1) e r c (omega arith) hc (mul-le-mul_left r he))
+    ∙ add-mul-mod_self_left (c + e * r - r) e (e - 1)
+  where
+    sides : (f e r c : ℕ) → e ≡ f + 1 → 1 ≤ c → r * 2 ≤ r * e →
+        c - 1 + e * (r + f) - (r + f) + e * 1 ≡ c + e * r - r + e * f
+    sides f e r c eq hc h = let k : e * f ≡ (f + 1) * f = ap (λ n. n * f) eq in omega arith
+
+-- ---- ladders
 
 residue_ladder_at : (d r b : ℕ) → residue (2 + d) (r, 1 + b) ≡ ladder_residue (2 + d) (ladder_of (2 + d) (r, 1 + b))
 residue_ladder_at d r b =
@@ -47,6 +85,7 @@ residue_ladder_at d r b =
         1 + b + (2 + d) * r - r + (2 + d) * (b * d) ≡ 1 + (2 + d) * (r + (1 + d) * b) - (r + (1 + d) * b)
     sides d r b = omega arith
 
+-- a node has the residue of its ladder
 pub residue_ladder : (e r c : ℕ) → 2 ≤ e → 1 ≤ c → residue e (r, c) ≡ ladder_residue e (ladder_of e (r, c))
 residue_ladder e r c he hc =
     subst (λ x. residue x (r, c) ≡ ladder_residue x (ladder_of x (r, c))) (back_e e he)

@@ -1,4 +1,5 @@
--- A share is the lift of what is left of the ladder vector there, once the later rows are taken off: how code finds it.
+-- How a loop finds the shares: a share is the lift of what is left of the vector of mu at its partition, once the later
+-- rows are taken off with their shares.
 use Rattle.sp_algebra.proofs.Sums.{sum_over-alike}
 use Rattle.std.proofs.Common.{◌≡◌, ℕ, List, [], ◌∷◌, ◌++◌, refl, sym, ◌∙◌, ap, subst, ℤ, ◌+ℤ◌, arith, Less}
 use Rattle.std.proofs.lemmas.Int.{ints}
@@ -10,7 +11,7 @@ use Rattle.sp_defs.specs.Power.{Vector}
 use Rattle.sp_defs.specs.Row.{Factors, combination, before, factors, factor_of, shares_over}
 use Rattle.sp_algebra.proofs.Laws.{coefficient-plus, coefficient-negate, IsLaurent-bar_invariant, times_one}
 use Rattle.sp_algebra.proofs.Laws.{lift_unique}
-use Rattle.sp_shapes.proofs.Order.{before_keep}
+use Rattle.sp_shapes.proofs.Before.{before_after}
 use Rattle.sp_triangle.proofs.Triangle.{drop_term, combination-cons, Triangle, row_positive}
 use Rattle.sp_triangle.proofs.Shares.{rows, keys-shares, from_keys, invariant-shares, shares_sum, rows_triangle}
 
@@ -21,15 +22,10 @@ share_of A mu nu later =
     (plus (factor_of A nu mu later)
     (sum_over (shares_over A mu later) (λ a. times a.1 (factor_of A nu a.0 (before a.0 later)))))
 
-before_after : (kappa : List ℕ) (lower seg : List (List ℕ)) → AllByRecursion (λ nu. compare nu kappa ≡ Less) lower →
-    before kappa (lower ++ seg) ≡ lower ++ before kappa seg
-before_after kappa [] seg h = refl
-before_after kappa (nu ∷ lower) seg (h, hs) =
-    before_keep nu kappa (lower ++ seg) h ∙ ap (λ r. nu ∷ r) (before_after kappa lower seg hs)
-
 module _ (Good : List ℕ → Type 0) (A : List ℕ → Vector) (tri : Triangle Good A)
     (l : (nu lambda : List ℕ) → IsLaurent (A nu lambda)) where
-  -- earlier partitions add nothing at a later one
+  -- ---- earlier partitions add nothing at a later one
+
   row_prefix : (kappa lambda : List ℕ) (lower between : List (List ℕ)) → Good lambda → AllByRecursion Good lower →
       AllByRecursion (λ nu. compare nu lambda ≡ Less) lower →
       combination A (factors A kappa (lower ++ between)) lambda ≡ combination A (factors A kappa between) lambda
@@ -51,6 +47,8 @@ module _ (Good : List ℕ → Type 0) (A : List ℕ → Vector) (tri : Triangle 
         ∙ row_prefix f.0 nu lower (before f.0 seg) gn gs h),
     all_prefix lower seg nu fs gn gs h ks,
   )
+
+  -- ---- the share at nu, with the rows over the partitions from nu on
 
   from_nu : (mu nu : List ℕ) (later : List (List ℕ)) → Good mu → AllByRecursion Good (nu ∷ later) →
       Ascending (nu ∷ later) →
@@ -109,9 +107,15 @@ module _ (Good : List ℕ → Type 0) (A : List ℕ → Vector) (tri : Triangle 
       ≡ lift (plus (A mu nu) (negate (combination (rows A (lower ++ (nu ∷ later))) (shares_over A mu later) nu)))
   unfolding combination
   next_share mu nu lower later gm gl gs h hs up =
-      from_nu mu nu later gm gs up
-      ∙ ap (λ x. lift (plus (A mu nu) (negate x))) (sym (sum_over-alike (shares_over A mu later) _ _ (all_prefix lower
-      (nu ∷ later) nu (shares_over A mu later) gs.0 gl h
-      (from_keys (λ kappa. AllByRecursion (λ x. compare x kappa ≡ Less) lower) (shares_over A mu later)
-      (subst (λ ks. AllByRecursion (λ kappa. AllByRecursion (λ x. compare x kappa ≡ Less) lower) ks)
-      (sym (keys-shares A mu later)) hs)))))
+      from_nu mu nu later gm gs up ∙ ap (λ x. lift (plus (A mu nu) (negate x))) (sym lower_add_nothing)
+    where
+      s : Factors
+      s = shares_over A mu later
+
+      keys_later : AllByRecursion (λ f. AllByRecursion (λ x. compare x f.0 ≡ Less) lower) s
+      keys_later = from_keys (λ kappa. AllByRecursion (λ x. compare x kappa ≡ Less) lower) s
+          (subst (λ ks. AllByRecursion (λ kappa. AllByRecursion (λ x. compare x kappa ≡ Less) lower) ks)
+          (sym (keys-shares A mu later)) hs)
+
+      lower_add_nothing : combination (rows A (lower ++ (nu ∷ later))) s nu ≡ combination (rows A (nu ∷ later)) s nu
+      lower_add_nothing = sum_over-alike s _ _ (all_prefix lower (nu ∷ later) nu s gs.0 gl h keys_later)

@@ -1,4 +1,4 @@
--- The shares: they give the ladder vector back, and no other bar-invariant ones do.
+-- The shares over a triangle: with them the rows give the vector of mu back, and no other bar-invariant factors do.
 use Rattle.sp_algebra.proofs.Sums.{IsLaurent-sum_over, sum_over-alike}
 use Rattle.std.proofs.Common.{◌≤ℤ◌, ◌≡◌, ℕ, List, [], ◌∷◌, map, refl, sym, ◌∙◌, ap, ap₂, subst, ℤ, pos, neg_ℤ, arith}
 use Rattle.std.proofs.Common.{Less}
@@ -14,9 +14,12 @@ use Rattle.sp_algebra.proofs.Laws.{plus_negate, times_assoc, times_plus, plus_ti
 use Rattle.sp_algebra.proofs.Laws.{bar_invariant-times, bar_invariant-plus, bar_invariant-negate, bar_invariant-nought}
 use Rattle.sp_algebra.proofs.Laws.{bar_invariant-lift}
 use Rattle.sp_algebra.proofs.Coefficients.{same_laurent}
-use Rattle.sp_shapes.proofs.Order.{before_keep, before_self, all_before, all_kept, all_mono, less_trans}
+use Rattle.sp_shapes.proofs.Order.{all_mono, less_trans}
+use Rattle.sp_shapes.proofs.Before.{before_keep, before_self, all_before, all_kept}
 use Rattle.sp_triangle.proofs.Triangle.{combination-cons, IsLaurent-combination, Triangle, row_later, row_at_mu}
 use Rattle.sp_triangle.proofs.Triangle.{same_factors}
+
+-- ---- the keys of the shares, and that they are bar-invariant
 
 pub keys-shares : (A : List ℕ → Vector) (mu : List ℕ) (seg : List (List ℕ)) →
     map (λ f. f.0) (shares_over A mu seg) ≡ seg
@@ -24,6 +27,7 @@ unfolding shares_over
 keys-shares A mu [] = refl
 keys-shares A mu (nu ∷ seg) = ap (λ r. nu ∷ r) (keys-shares A mu seg)
 
+-- what holds of the keys holds of each factor's
 pub from_keys : (P : List ℕ → Type 0) (fs : Factors) → AllByRecursion P (map (λ f. f.0) fs) →
     AllByRecursion (λ f. P f.0) fs
 from_keys P [] h = tt
@@ -46,15 +50,19 @@ pub invariant-shares : (A : List ℕ → Vector) (mu : List ℕ) (seg : List (Li
     AllByRecursion (λ f. IsBarInvariant f.1) (shares_over A mu seg)
 unfolding shares_over
 invariant-shares A mu [] = tt
-invariant-shares A mu (nu ∷ seg) =
-    let s : Factors = shares_over A mu seg in
-    let total : Laurent = sum_over s (λ a. times a.1 (factor_of A nu a.0 (before a.0 seg))) in (
-      bar_invariant-negate (plus (factor_of A nu mu seg) total)
-          (bar_invariant-plus (factor_of A nu mu seg) total (invariant-factor_of A nu mu seg)
-          (invariant-sum s (λ kappa. factor_of A nu kappa (before kappa seg))
-          (λ kappa. invariant-factor_of A nu kappa (before kappa seg)) (invariant-shares A mu seg))),
-      invariant-shares A mu seg,
-    )
+invariant-shares A mu (nu ∷ seg) = (
+  bar_invariant-negate (plus (factor_of A nu mu seg) through)
+      (bar_invariant-plus (factor_of A nu mu seg) through (invariant-factor_of A nu mu seg)
+      (invariant-sum s (λ kappa. factor_of A nu kappa (before kappa seg))
+      (λ kappa. invariant-factor_of A nu kappa (before kappa seg)) (invariant-shares A mu seg))),
+  invariant-shares A mu seg,
+)
+  where
+    s : Factors
+    s = shares_over A mu seg
+
+    through : Laurent
+    through = sum_over s (λ a. times a.1 (factor_of A nu a.0 (before a.0 seg)))
 
 -- ---- sums of products
 
@@ -66,6 +74,7 @@ negate_times p q j =
     (sym (plus_times p (negate p) q) ∙ ap (λ w. times w q) (plus_negate p) ∙ nought_times q) in
     omega (arith, ints, e, coefficient-plus (times p q) (times (negate p) q) j)
 
+-- a factor a that stands in each term comes out of the sum
 spread : (fs : Factors) (u : List ℕ → Laurent) (a : Laurent) (c : List ℕ → Laurent) →
     sum_over fs (λ f. times f.1 (plus (times (u f.0) a) (c f.0)))
     ≡ plus (times (sum_over fs (λ f. times f.1 (u f.0))) a) (sum_over fs (λ f. times f.1 (c f.0)))
@@ -75,38 +84,47 @@ spread [] u a c = sym (ap (λ w. plus w []) (nought_times a) ∙ nothing)
     nothing : plus [] [] ≡ []
     nothing = nought_plus [] (IsLaurent-sum_over {X = ℕ} [] (λ _. []))
 spread ((k, b) ∷ fs) u a c =
-    let here : times b (plus (times (u k) a) (c k)) ≡ plus (times (times b (u k)) a) (times b (c k)) =
-    times_plus b (times (u k) a) (c k) ∙ ap (λ w. plus w (times b (c k))) (sym (times_assoc b (u k) a)) in
-    ap₂ (λ x y. plus x y) here (spread fs u a c)
-    ∙ same_laurent _ _
-    (IsLaurent-plus (plus (times (times b (u k)) a) (times b (c k)))
-    (plus (times (sum_over fs (λ f. times f.1 (u f.0))) a) (sum_over fs (λ f. times f.1 (c f.0)))))
-    (IsLaurent-plus (times (plus (times b (u k)) (sum_over fs (λ f. times f.1 (u f.0)))) a)
-    (plus (times b (c k)) (sum_over fs (λ f. times f.1 (c f.0)))))
-    (λ j. regroup (times (times b (u k)) a) (times b (c k)) (times (sum_over fs (λ f. times f.1 (u f.0))) a)
-    (sum_over fs (λ f. times f.1 (c f.0))) (times (plus (times b (u k)) (sum_over fs (λ f. times f.1 (u f.0)))) a) j
-    (plus_times (times b (u k)) (sum_over fs (λ f. times f.1 (u f.0))) a))
+    ap₂ (λ x y. plus x y) first (spread fs u a c)
+    ∙ same_laurent _ _ (IsLaurent-plus (plus (times bu a) bc) (plus (times us a) cs))
+    (IsLaurent-plus (times (plus bu us) a) (plus bc cs)) regrouped
   where
-    regroup : (p q r s t : Laurent) (j : ℤ) → t ≡ plus p r →
-        coefficient (plus (plus p q) (plus r s)) j ≡ coefficient (plus t (plus q s)) j
-    regroup p q r s t j e =
-        let e' : coefficient t j ≡ coefficient (plus p r) j = ap (λ w. coefficient w j) e in
-        omega (
-          arith,
-          ints,
-          coefficient-plus (plus p q) (plus r s) j,
-          coefficient-plus p q j,
-          coefficient-plus r s j,
-          coefficient-plus t (plus q s) j,
-          coefficient-plus q s j,
-          e',
-          coefficient-plus p r j,
-        )
+    bu : Laurent
+    bu = times b (u k)
 
--- the rows over the list
+    bc : Laurent
+    bc = times b (c k)
+
+    us : Laurent
+    us = sum_over fs (λ f. times f.1 (u f.0))
+
+    cs : Laurent
+    cs = sum_over fs (λ f. times f.1 (c f.0))
+
+    first : times b (plus (times (u k) a) (c k)) ≡ plus (times bu a) bc
+    first = times_plus b (times (u k) a) (c k) ∙ ap (λ w. plus w bc) (sym (times_assoc b (u k) a))
+
+    regrouped : (j : ℤ) →
+        coefficient (plus (plus (times bu a) bc) (plus (times us a) cs)) j
+        ≡ coefficient (plus (times (plus bu us) a) (plus bc cs)) j
+    regrouped j = omega (
+      arith,
+      ints,
+      coefficient-plus (plus (times bu a) bc) (plus (times us a) cs) j,
+      coefficient-plus (times bu a) bc j,
+      coefficient-plus (times us a) cs j,
+      coefficient-plus (times (plus bu us) a) (plus bc cs) j,
+      coefficient-plus bc cs j,
+      ap (λ w. coefficient w j) (plus_times bu us a),
+      coefficient-plus (times bu a) (times us a) j,
+    )
+
+-- ---- the rows over a list, with one partition more in front
+
+-- the row of kappa over the partitions of the list that are before it
 abbrev pub rows : (List ℕ → Vector) → List (List ℕ) → List ℕ → Vector
 rows A seg kappa lambda = combination A (factors A kappa (before kappa seg)) lambda
 
+-- with no partition before nu its row is its vector
 alone : (A : List ℕ → Vector) (nu lambda : List ℕ) → IsLaurent (A nu lambda) →
     combination A (factors A nu []) lambda ≡ A nu lambda
 unfolding factors combination sum_over
@@ -136,27 +154,26 @@ all_rows_with_first A nu seg lambda [] h = tt
 all_rows_with_first A nu seg lambda (f ∷ fs) (h, hs) =
     (ap (λ w. times f.1 w) (row_with_first A nu f.0 seg lambda h), all_rows_with_first A nu seg lambda fs hs)
 
-finish : (f total a c w m alpha_a : Laurent) (j : ℤ) →
-    coefficient alpha_a j ≡ neg_ℤ (coefficient (times (plus f total) a) j) → plus c w ≡ m →
-    coefficient (plus (plus (times f a) c) (plus alpha_a (plus (times total a) w))) j ≡ coefficient m j
-finish f total a c w m alpha_a j e cw =
-    let e1 : coefficient (times (plus f total) a) j ≡ coefficient (plus (times f a) (times total a)) j =
-    ap (λ x. coefficient x j) (plus_times f total a) in
-    let e2 : coefficient (plus c w) j ≡ coefficient m j = ap (λ x. coefficient x j) cw in
-    omega (
-      arith,
-      ints,
-      e,
-      e1,
-      e2,
-      coefficient-plus (times f a) (times total a) j,
-      coefficient-plus c w j,
-      coefficient-plus (plus (times f a) c) (plus alpha_a (plus (times total a) w)) j,
-      coefficient-plus (times f a) c j,
-      coefficient-plus alpha_a (plus (times total a) w) j,
-      coefficient-plus (times total a) w j,
-    )
+-- what the shares are made for: with f the factor of nu in the row of mu, c the later rest of that row, and w the other
+-- rows' sum, the terms of a cancel and c + w is left
+cancelled : (f through a c w m : Laurent) → plus c w ≡ m → (j : ℤ) →
+    coefficient (plus (plus (times f a) c) (plus (times (negate (plus f through)) a) (plus (times through a) w))) j
+    ≡ coefficient m j
+cancelled f through a c w m cw j = omega (
+  arith,
+  ints,
+  negate_times (plus f through) a j,
+  ap (λ x. coefficient x j) (plus_times f through a),
+  ap (λ x. coefficient x j) cw,
+  coefficient-plus (times f a) (times through a) j,
+  coefficient-plus c w j,
+  coefficient-plus (plus (times f a) c) (plus (times (negate (plus f through)) a) (plus (times through a) w)) j,
+  coefficient-plus (times f a) c j,
+  coefficient-plus (times (negate (plus f through)) a) (plus (times through a) w) j,
+  coefficient-plus (times through a) w j,
+)
 
+-- the row of mu, and the other rows times the shares, add up to the vector of mu
 pub shares_sum : (A : List ℕ → Vector) → ((nu lambda : List ℕ) → IsLaurent (A nu lambda)) →
     (mu : List ℕ) (seg : List (List ℕ)) (lambda : List ℕ) → Ascending seg →
     plus (combination A (factors A mu seg) lambda) (combination (rows A seg) (shares_over A mu seg) lambda)
@@ -166,33 +183,48 @@ shares_sum A l mu [] lambda up =
     plus_nought (combination A (factors A mu []) lambda) (IsLaurent-combination A (factors A mu []) lambda)
     ∙ alone A mu lambda (l mu lambda)
 shares_sum A l mu (nu ∷ seg) lambda (u, us) =
-    let s : Factors = shares_over A mu seg in
-    let f : Laurent = factor_of A nu mu seg in
-    let total : Laurent = sum_over s (λ a. times a.1 (factor_of A nu a.0 (before a.0 seg))) in
-    let a : Laurent = A nu lambda in
-    let c : Laurent = combination A (factors A mu seg) lambda in
-    let w : Laurent = combination (rows A seg) s lambda in
-    let own : rows A (nu ∷ seg) nu lambda ≡ a =
-    ap (λ w. combination A (factors A nu w) lambda) (before_self nu seg u) ∙ alone A nu lambda (l nu lambda) in
-    let later : AllByRecursion (λ x. compare nu x.0 ≡ Less) s =
-    from_keys (λ kappa. compare nu kappa ≡ Less) s
-    (subst (λ ks. AllByRecursion (λ kappa. compare nu kappa ≡ Less) ks) (sym (keys-shares A mu seg)) u) in
-    let others : sum_over s (λ x. times x.1 (rows A (nu ∷ seg) x.0 lambda)) ≡ plus (times total a) w =
-    sum_over-alike s (λ x. times x.1 (rows A (nu ∷ seg) x.0 lambda))
-    (λ x. times x.1 (plus (times (factor_of A nu x.0 (before x.0 seg)) a) (rows A seg x.0 lambda)))
-    (all_rows_with_first A nu seg lambda s later)
-    ∙ spread s (λ kappa. factor_of A nu kappa (before kappa seg)) a (λ kappa. rows A seg kappa lambda) in
     ap₂ (λ x y. plus x y) (with_first A nu mu seg lambda)
-    (ap₂ (λ x y. plus x y) (ap (λ x. times (negate (plus f total)) x) own) others)
+    (ap₂ (λ x y. plus x y) (ap (λ x. times (negate (plus f through)) x) own) others)
     ∙ same_laurent _ _
-    (IsLaurent-plus (plus (times f a) c) (plus (times (negate (plus f total)) a) (plus (times total a) w)))
-    (l mu lambda)
-    (λ j. finish f total a c w (A mu lambda) (times (negate (plus f total)) a) j (negate_times (plus f total) a j)
-    (shares_sum A l mu seg lambda us))
+    (IsLaurent-plus (plus (times f a) c) (plus (times (negate (plus f through)) a) (plus (times through a) w)))
+    (l mu lambda) (cancelled f through a c w (A mu lambda) (shares_sum A l mu seg lambda us))
+  where
+    s : Factors
+    s = shares_over A mu seg
+
+    f : Laurent
+    f = factor_of A nu mu seg
+
+    through : Laurent
+    through = sum_over s (λ a. times a.1 (factor_of A nu a.0 (before a.0 seg)))
+
+    a : Laurent
+    a = A nu lambda
+
+    c : Laurent
+    c = combination A (factors A mu seg) lambda
+
+    w : Laurent
+    w = combination (rows A seg) s lambda
+
+    own : rows A (nu ∷ seg) nu lambda ≡ a
+    own = ap (λ w. combination A (factors A nu w) lambda) (before_self nu seg u) ∙ alone A nu lambda (l nu lambda)
+
+    later : AllByRecursion (λ x. compare nu x.0 ≡ Less) s
+    later = from_keys (λ kappa. compare nu kappa ≡ Less) s
+        (subst (λ ks. AllByRecursion (λ kappa. compare nu kappa ≡ Less) ks) (sym (keys-shares A mu seg)) u)
+
+    others : sum_over s (λ x. times x.1 (rows A (nu ∷ seg) x.0 lambda)) ≡ plus (times through a) w
+    others =
+        sum_over-alike s (λ x. times x.1 (rows A (nu ∷ seg) x.0 lambda))
+        (λ x. times x.1 (plus (times (factor_of A nu x.0 (before x.0 seg)) a) (rows A seg x.0 lambda)))
+        (all_rows_with_first A nu seg lambda s later)
+        ∙ spread s (λ kappa. factor_of A nu kappa (before kappa seg)) a (λ kappa. rows A seg kappa lambda)
 
 -- ---- uniqueness
 
 module _ (Good : List ℕ → Type 0) (A : List ℕ → Vector) (tri : Triangle Good A) where
+  -- the rows are a triangle too
   pub rows_triangle : (seg : List (List ℕ)) → AllByRecursion Good seg → Triangle Good (rows A seg)
   rows_triangle seg good = record {
     diagonal = λ nu gn. row_at_mu Good A tri nu (before nu seg) gn (all_kept Good nu seg good) (all_before nu seg);
@@ -201,6 +233,7 @@ module _ (Good : List ℕ → Type 0) (A : List ℕ → Vector) (tri : Triangle 
         (λ kappa k. less_trans kappa nu lambda k h) (all_before nu seg));
   }
 
+  -- factors that give the vector of mu back are the shares
   pub only_shares : ((nu lambda : List ℕ) → IsLaurent (A nu lambda)) → (mu : List ℕ) (seg : List (List ℕ)) →
       AllByRecursion Good seg → Ascending seg → (gs : Factors) → map (λ f. f.0) gs ≡ seg →
       AllByRecursion (λ f. IsBarInvariant f.1) gs →

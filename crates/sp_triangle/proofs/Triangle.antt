@@ -1,5 +1,6 @@
--- Rows and shares over any family of vectors that is a triangle with ones, by algebra alone.
-use Rattle.sp_algebra.proofs.Sums.{IsLaurent-sum_over, sum_over-append, sum_over-alike}
+-- Rows over any family of vectors that is a triangle with ones, by algebra alone: the row of mu has 1 at mu, 0 after it
+-- and positive powers alone before it, and bar-invariant factors are told apart by what they give up to the power 0.
+use Rattle.sp_algebra.proofs.Sums.{IsLaurent-sum_over, sum_over-append}
 use Rattle.std.proofs.Common.{◌≡◌, ℕ, List, [], ◌∷◌, ◌++◌, map, refl, sym, ◌∙◌, ap, ap₂, subst, ℤ, pos, ◌+ℤ◌, ◌≤ℤ◌}
 use Rattle.std.proofs.Common.{arith, Less}
 use Rattle.std.proofs.lemmas.Int.{ints}
@@ -9,9 +10,11 @@ use Rattle.sp_defs.specs.Laurent.{Laurent, coefficient, collect, plus, negate, t
 use Rattle.sp_defs.specs.Laurent.{IsBarInvariant, IsPositive, sum_over}
 use Rattle.sp_defs.specs.Power.{Vector}
 use Rattle.sp_defs.specs.Row.{Factors, combination, factors}
-use Rattle.sp_algebra.proofs.Laws.{coefficient-plus, IsLaurent-plus, IsLaurent-bar_invariant, plus_comm, plus_assoc}
+use Rattle.sp_algebra.proofs.Laws.{coefficient-plus, IsLaurent-bar_invariant, plus_comm}
 use Rattle.sp_algebra.proofs.Laws.{plus_nought, nought_plus, times_one, times_nought, bar_invariant-negate}
 use Rattle.sp_algebra.proofs.Laws.{bar_invariant-one, bar_invariant-lift, lift_rest, same_bar_invariant}
+
+-- ---- combinations, by their terms
 
 pub combination-cons : (A : List ℕ → Vector) (nu : List ℕ) (b : Laurent) (fs : Factors) (lambda : List ℕ) →
     combination A ((nu, b) ∷ fs) lambda ≡ plus (times b (A nu lambda)) (combination A fs lambda)
@@ -29,12 +32,12 @@ combination-append A fs gs lambda = sum_over-append fs gs (λ f. times f.1 (A f.
 
 -- ---- the triangle
 
--- Over the good partitions: 1 on the diagonal, and 0 at every later one.
+-- over the good partitions: 1 at the partition itself, and 0 at every later one
 pub record Triangle (Good : List ℕ → Type 0) (A : List ℕ → Vector) : Type 0 where
   pub diagonal : (nu : List ℕ) → Good nu → A nu nu ≡ one
   pub later : (nu lambda : List ℕ) → Good nu → Good lambda → compare nu lambda ≡ Less → A nu lambda ≡ []
 
--- A later partition's term at an earlier place is 0, so the combination is that of the rest.
+-- the term of a partition at a later one is 0, so the combination is that of the rest
 pub drop_term : (A : List ℕ → Vector) (nu : List ℕ) (b : Laurent) (fs : Factors) (lambda : List ℕ) → A nu lambda ≡ [] →
     combination A ((nu, b) ∷ fs) lambda ≡ combination A fs lambda
 drop_term A nu b fs lambda z =
@@ -43,6 +46,7 @@ drop_term A nu b fs lambda z =
     ∙ ap (λ x. plus x (combination A fs lambda)) (times_nought b)
     ∙ nought_plus (combination A fs lambda) (IsLaurent-combination A fs lambda)
 
+-- the term of a partition at itself is its factor
 diagonal_term : (A : List ℕ → Vector) (nu : List ℕ) (b : Laurent) (fs : Factors) → IsLaurent b → A nu nu ≡ one →
     combination A ((nu, b) ∷ fs) nu ≡ plus b (combination A fs nu)
 diagonal_term A nu b fs l d =
@@ -50,7 +54,7 @@ diagonal_term A nu b fs l d =
     ∙ ap (λ x. plus (times b x) (combination A fs nu)) d
     ∙ ap (λ x. plus x (combination A fs nu)) (times_one b l)
 
--- ---- the factors
+-- ---- the factors, by their keys, and that they are bar-invariant
 
 pub keys-factors : (A : List ℕ → Vector) (mu : List ℕ) (seg : List (List ℕ)) →
     map (λ f. f.0) (factors A mu seg) ≡ seg ++ (mu ∷ [])
@@ -67,6 +71,8 @@ invariant-factors A mu (nu ∷ seg) = (
       (bar_invariant-lift (combination A (factors A mu seg) nu)),
   invariant-factors A mu seg,
 )
+
+-- ---- the row of mu
 
 module _ (Good : List ℕ → Type 0) (A : List ℕ → Vector) (tri : Triangle Good A) where
   -- at a good partition later than all, the row is 0
@@ -92,7 +98,7 @@ module _ (Good : List ℕ → Type 0) (A : List ℕ → Vector) (tri : Triangle 
       (tri.later nu mu gn gm s)
       ∙ row_at_mu mu seg gm gs ss
 
-  -- at the partitions before mu it has positive powers alone
+  -- one partition more in front changes nothing at the later ones
   keep_positive : (mu nu : List ℕ) (b : Laurent) (fs : Factors) (seg : List (List ℕ)) → Good nu →
       AllByRecursion Good seg → AllByRecursion (λ kappa. compare nu kappa ≡ Less) seg →
       AllByRecursion (λ kappa. IsPositive (combination A fs kappa)) seg →
@@ -103,30 +109,41 @@ module _ (Good : List ℕ → Type 0) (A : List ℕ → Vector) (tri : Triangle 
     keep_positive mu nu b fs seg gn gs ss hs,
   )
 
+  -- at the partitions before mu it has positive powers alone: the factor there is minus the lift of all the others give
   pub row_positive : (mu : List ℕ) (seg : List (List ℕ)) → Good mu → AllByRecursion Good seg → Ascending seg →
       AllByRecursion (λ kappa. IsPositive (combination A (factors A mu seg) kappa)) seg
   unfolding factors
   row_positive mu [] gm gs up = tt
-  row_positive mu (nu ∷ seg) gm (gn, gs) (u, us) =
-      let x : Laurent = combination A (factors A mu seg) nu in (
-        subst (λ p. IsPositive p)
-            (sym
-            (diagonal_term A nu (negate (lift x)) (factors A mu seg)
-            (IsLaurent-bar_invariant (negate (lift x)) (bar_invariant-negate (lift x) (bar_invariant-lift x)))
-            (tri.diagonal nu gn)
-            ∙ plus_comm (negate (lift x)) x)) (lift_rest x),
-        keep_positive mu nu (negate (lift x)) (factors A mu seg) seg gn gs u (row_positive mu seg gm gs us),
-      )
+  row_positive mu (nu ∷ seg) gm (gn, gs) (u, us) = (
+    subst (λ p. IsPositive p) (sym at_nu) (lift_rest others),
+    keep_positive mu nu (negate (lift others)) (factors A mu seg) seg gn gs u (row_positive mu seg gm gs us),
+  )
+    where
+      others : Laurent
+      others = combination A (factors A mu seg) nu
+
+      bar_factor : IsBarInvariant (negate (lift others))
+      bar_factor = bar_invariant-negate (lift others) (bar_invariant-lift others)
+
+      at_nu : combination A ((nu, negate (lift others)) ∷ factors A mu seg) nu ≡ plus others (negate (lift others))
+      at_nu =
+          diagonal_term A nu (negate (lift others)) (factors A mu seg)
+          (IsLaurent-bar_invariant (negate (lift others)) bar_factor) (tri.diagonal nu gn)
+          ∙ plus_comm (negate (lift others)) others
 
   -- ---- only one list of bar-invariant factors gives what is given at the powers up to 0
 
   abbrev pub Agree : Laurent → Laurent → Type 0
   Agree p q = (j : ℤ) → j ≤ℤ pos 0 → coefficient p j ≡ coefficient q j
 
+  -- two lists of factors give vectors that agree at each of the partitions
+  abbrev AgreeOver : Factors → Factors → List (List ℕ) → Type 0
+  AgreeOver gs hs rs = AllByRecursion (λ nu. Agree (combination A gs nu) (combination A hs nu)) rs
+
+  -- without the first factors the vectors agree at the later partitions
   agree_tail : (nu : List ℕ) (g h : Laurent) (gs hs : Factors) (rs : List (List ℕ)) → Good nu → AllByRecursion Good rs →
-      AllByRecursion (λ kappa. compare nu kappa ≡ Less) rs →
-      AllByRecursion (λ kappa. Agree (combination A ((nu, g) ∷ gs) kappa) (combination A ((nu, h) ∷ hs) kappa)) rs →
-      AllByRecursion (λ kappa. Agree (combination A gs kappa) (combination A hs kappa)) rs
+      AllByRecursion (λ kappa. compare nu kappa ≡ Less) rs → AgreeOver ((nu, g) ∷ gs) ((nu, h) ∷ hs) rs →
+      AgreeOver gs hs rs
   agree_tail nu g h gs hs [] gn good s a = tt
   agree_tail nu g h gs hs (kappa ∷ rs) gn (gk, good) (s, ss) (a, as_) = (
     (λ j low.
@@ -136,6 +153,27 @@ module _ (Good : List ℕ → Type 0) (A : List ℕ → Vector) (tri : Triangle 
     agree_tail nu g h gs hs rs gn good ss as_,
   )
 
+  -- with the same later factors, the first factors agree
+  agree_head : (nu : List ℕ) (g h : Laurent) (gs hs : Factors) → Good nu → IsBarInvariant g → IsBarInvariant h →
+      gs ≡ hs → Agree (combination A ((nu, g) ∷ gs) nu) (combination A ((nu, h) ∷ hs) nu) → Agree g h
+  agree_head nu g h gs hs gn bg bh t a j low =
+      omega (
+        arith,
+        ints,
+        a j low,
+        parts g gs bg,
+        parts h hs bh,
+        ap (λ fs. coefficient (combination A fs nu) j) t,
+      )
+    where
+      parts : (b : Laurent) (fs : Factors) → IsBarInvariant b →
+          coefficient (combination A ((nu, b) ∷ fs) nu) j ≡ coefficient b j +ℤ coefficient (combination A fs nu) j
+      parts b fs bb =
+          ap (λ p. coefficient p j) (diagonal_term A nu b fs (IsLaurent-bar_invariant b bb) (tri.diagonal nu gn))
+          ∙ coefficient-plus b (combination A fs nu) j
+
+  -- bar-invariant factors are the same where their vectors agree at each partition: the first differing factor would
+  -- show
   pub same_factors : (rs : List (List ℕ)) (gs hs : Factors) → AllByRecursion Good rs → Ascending rs →
       map (λ f. f.0) gs ≡ rs → map (λ f. f.0) hs ≡ rs → AllByRecursion (λ f. IsBarInvariant f.1) gs →
       AllByRecursion (λ f. IsBarInvariant f.1) hs →
@@ -145,47 +183,22 @@ module _ (Good : List ℕ → Type 0) (A : List ℕ → Vector) (tri : Triangle 
   same_factors [] (g ∷ gs) hs good up kg kh bg bh a = absurd (cc)
   same_factors (nu ∷ rs) [] hs good up kg kh bg bh a = absurd (cc)
   same_factors (nu ∷ rs) (g ∷ gs) [] good up kg kh bg bh a = absurd (cc)
-  same_factors (nu ∷ rs) ((x, g) ∷ gs) ((y, h) ∷ hs) (gn, good) (u, us) kg kh (bg, bgs) (bh, bhs) (a, as_) =
+  same_factors (nu ∷ rs) ((x, g) ∷ gs) ((y, h) ∷ hs) (gn, good) (u, us) kg kh (bg, bgs) (bh, bhs) a =
       let ex : x ≡ nu = cc in
       let ey : y ≡ nu = cc in
       let kgs : map (λ f. f.0) gs ≡ rs = cc in
       let khs : map (λ f. f.0) hs ≡ rs = cc in
-      let tails : gs ≡ hs = same_factors rs gs hs good us kgs khs bgs bhs
-      (agree_tail nu g h gs hs rs gn good u (along x y nu g h gs hs ex ey rs as_)) in
-      let a' : Agree (combination A ((nu, g) ∷ gs) nu) (combination A ((nu, h) ∷ hs) nu) =
-      subst (λ z. Agree (combination A ((z, g) ∷ gs) nu) (combination A ((nu, h) ∷ hs) nu)) ex
-      (subst (λ z. Agree (combination A ((x, g) ∷ gs) nu) (combination A ((z, h) ∷ hs) nu)) ey a) in
-      let heads : g ≡ h = same_bar_invariant g h bg bh
-      (λ j low. head_at nu g h gs hs (tri.diagonal nu gn) bg bh tails j (a' j low)) in
-      ap₂ (λ s t. s ∷ t) (ap₂ (λ s t. (s, t)) (ex ∙ sym ey) heads) tails
+      with_keys x y (sym ex) (sym ey) (same_factors rs gs hs good us kgs khs bgs bhs) a
     where
-      along : (x y nu : List ℕ) (g h : Laurent) (gs hs : Factors) → x ≡ nu → y ≡ nu → (rs : List (List ℕ)) →
-          AllByRecursion (λ kappa. Agree (combination A ((x, g) ∷ gs) kappa) (combination A ((y, h) ∷ hs) kappa)) rs →
-          AllByRecursion (λ kappa. Agree (combination A ((nu, g) ∷ gs) kappa) (combination A ((nu, h) ∷ hs) kappa)) rs
-      along x y nu g h gs hs ex ey rs w =
-          subst
-          (λ z.
-          AllByRecursion
-          (λ kappa. Agree (combination A ((z, g) ∷ gs) kappa) (combination A ((nu, h) ∷ hs) kappa)) rs) ex
-          (subst
-          (λ z.
-          AllByRecursion
-          (λ kappa. Agree (combination A ((x, g) ∷ gs) kappa) (combination A ((z, h) ∷ hs) kappa)) rs)
-          ey w)
+      at_nu : (AgreeOver gs hs rs → gs ≡ hs) → AgreeOver ((nu, g) ∷ gs) ((nu, h) ∷ hs) (nu ∷ rs) →
+          (nu, g) ∷ gs ≡ (nu, h) ∷ hs
+      at_nu ih (a, as_) =
+          let tails : gs ≡ hs = ih (agree_tail nu g h gs hs rs gn good u as_) in
+          let heads : g ≡ h = same_bar_invariant g h bg bh (agree_head nu g h gs hs gn bg bh tails a) in
+          ap₂ (λ f fs. (nu, f) ∷ fs) heads tails
 
-      head_at : (nu : List ℕ) (g h : Laurent) (gs hs : Factors) → A nu nu ≡ one → IsBarInvariant g → IsBarInvariant h →
-          gs ≡ hs → (j : ℤ) →
-          coefficient (combination A ((nu, g) ∷ gs) nu) j ≡ coefficient (combination A ((nu, h) ∷ hs) nu) j →
-          coefficient g j ≡ coefficient h j
-      head_at nu g h gs hs d bg bh t j e =
-          let eg : coefficient (combination A ((nu, g) ∷ gs) nu) j
-          ≡ coefficient g j +ℤ coefficient (combination A gs nu) j =
-          ap (λ p. coefficient p j) (diagonal_term A nu g gs (IsLaurent-bar_invariant g bg) d)
-          ∙ coefficient-plus g (combination A gs nu) j in
-          let eh : coefficient (combination A ((nu, h) ∷ hs) nu) j
-          ≡ coefficient h j +ℤ coefficient (combination A hs nu) j =
-          ap (λ p. coefficient p j) (diagonal_term A nu h hs (IsLaurent-bar_invariant h bh) d)
-          ∙ coefficient-plus h (combination A hs nu) j in
-          let et : coefficient (combination A gs nu) j ≡ coefficient (combination A hs nu) j =
-          ap (λ fs. coefficient (combination A fs nu) j) t in
-          omega (arith, ints, e, eg, eh, et)
+      with_keys : (x y : List ℕ) → nu ≡ x → nu ≡ y → (AgreeOver gs hs rs → gs ≡ hs) →
+          AgreeOver ((x, g) ∷ gs) ((y, h) ∷ hs) (nu ∷ rs) → (x, g) ∷ gs ≡ (y, h) ∷ hs
+      with_keys x y ex ey ih =
+          subst (λ z. AgreeOver ((z, g) ∷ gs) ((y, h) ∷ hs) (nu ∷ rs) → (z, g) ∷ gs ≡ (y, h) ∷ hs) ex
+          (subst (λ z. AgreeOver ((nu, g) ∷ gs) ((z, h) ∷ hs) (nu ∷ rs) → (nu, g) ∷ gs ≡ (z, h) ∷ hs) ey (at_nu ih))

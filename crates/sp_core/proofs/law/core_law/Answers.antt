@@ -1,5 +1,8 @@
-use Rattle.sp_core.proofs.Theorem.{throughout, shared, claims_in_order, waits, least_never_waits, names_unless_ended}
-use Rattle.sp_core.proofs.Theorem.{named_can_move, ends_settled, each_change_falls, only_waits_stay, few_changes}
+use Rattle.sp_core.proofs.Runs.{throughout, shared}
+use Rattle.sp_core.proofs.Claims.{claims_in_order}
+use Rattle.sp_core.proofs.Waits.{waits, least_never_waits}
+use Rattle.sp_core.proofs.Going.{names_unless_ended, named_can_move, ends_settled}
+use Rattle.sp_core.proofs.Falls.{each_change_falls, only_waits_stay, few_changes}
 use Rattle.sp_core.specs.Law.{IsShared, OpenComeLast, WaitsAreForEarlier, LeastNeverWaits, NamesUnlessEnded}
 use Rattle.sp_core.specs.Law.{NamedCanMove, EndsSettled, EachChangeFalls, OnlyWaitsStay}
 use Rattle.sp_core.proofs.law.core_law.Goals as goal

@@ -1,4 +1,3 @@
-use Rattle.std.proofs.Common.{ℕ}
 use Rattle.sp_core.proofs.Workers.{BestSoFar}
 use Rattle.sp_core.proofs.state.least_busy.Given as goal
 

@@ -1,0 +1,121 @@
+-- Addable and removable nodes: what their tests say of the neighbours, and of the lengths of the rows.
+use Rattle.std.proofs.Common.{◌≡◌, ℕ, ◌+◌, ◌-◌, ◌<◌, ◌≤◌, Bool, true, false, not, ◌&&◌, ◌||◌, nat_eq, List, refl, sym}
+use Rattle.std.proofs.Common.{ap, arith, ◌⊎◌, inl, inr, eqb-true, eq-eqb}
+use Rattle.std.proofs.lemmas.Bool.{or_left, or_right}
+use Rattle.sp_defs.specs.Partition.{part}
+use Rattle.sp_defs.specs.Node.{in_diagram, is_addable, is_removable}
+use Rattle.sp_lists.proofs.Elements.{and_split, and_join, or_split, le_or_lt}
+use Rattle.sp_shapes.proofs.Diagram.{in_node, node_in, node_out}
+use Rattle.sp_shapes.proofs.Moves.{out_node}
+
+not_true : (b : Bool) → not b ≡ true → b ≡ false
+not_true true h = sym h
+not_true false h = refl
+
+-- ---- by the neighbours
+
+pub record IsAddable (parts : List ℕ) (r c : ℕ) : Type 0 where
+  pub outside : in_diagram parts (r, c) ≡ false
+  pub left : (c ≡ 1) ⊎ (in_diagram parts (r, c - 1) ≡ true)
+  pub up : (r ≡ 1) ⊎ (in_diagram parts (r - 1, c) ≡ true)
+
+pub addable_facts : (parts : List ℕ) (r c : ℕ) → is_addable parts (r, c) ≡ true → IsAddable parts r c
+addable_facts parts r c h =
+    let p = and_split (not (in_diagram parts (r, c))) (left_test && up_test) h in
+    let q = and_split left_test up_test p.1 in
+    record {
+      outside = not_true (in_diagram parts (r, c)) p.0;
+      left = first_or c (in_diagram parts (r, c - 1)) q.0;
+      up = first_or r (in_diagram parts (r - 1, c)) q.1;
+    }
+  where
+    left_test : Bool
+    left_test = nat_eq c 1 || in_diagram parts (r, c - 1)
+
+    up_test : Bool
+    up_test = nat_eq r 1 || in_diagram parts (r - 1, c)
+
+    first_or : (n : ℕ) (b : Bool) → (nat_eq n 1 || b) ≡ true → (n ≡ 1) ⊎ (b ≡ true)
+    first_or n b t = settle (or_split (nat_eq n 1) b t)
+      where
+        settle : (nat_eq n 1 ≡ true) ⊎ (b ≡ true) → (n ≡ 1) ⊎ (b ≡ true)
+        settle (inl e) = inl (eqb-true n 1 e)
+        settle (inr e) = inr e
+
+pub facts_addable : (parts : List ℕ) (r c : ℕ) → IsAddable parts r c → is_addable parts (r, c) ≡ true
+facts_addable parts r c h =
+    and_join (not (in_diagram parts (r, c)))
+    ((nat_eq c 1 || in_diagram parts (r, c - 1)) && (nat_eq r 1 || in_diagram parts (r - 1, c)))
+    (ap not h.outside)
+    (and_join (nat_eq c 1 || in_diagram parts (r, c - 1)) (nat_eq r 1 || in_diagram parts (r - 1, c))
+    (either c (in_diagram parts (r, c - 1)) h.left) (either r (in_diagram parts (r - 1, c)) h.up))
+  where
+    either : (n : ℕ) (b : Bool) → (n ≡ 1) ⊎ (b ≡ true) → (nat_eq n 1 || b) ≡ true
+    either n b (inl e) = or_left (nat_eq n 1) b (eq-eqb n 1 e)
+    either n b (inr e) = or_right (nat_eq n 1) b e
+
+pub record IsRemovable (parts : List ℕ) (r c : ℕ) : Type 0 where
+  pub inside : in_diagram parts (r, c) ≡ true
+  pub right : in_diagram parts (r, c + 1) ≡ false
+  pub down : in_diagram parts (r + 1, c) ≡ false
+
+pub removable_facts : (parts : List ℕ) (r c : ℕ) → is_removable parts (r, c) ≡ true → IsRemovable parts r c
+removable_facts parts r c h =
+    let p = and_split (in_diagram parts (r, c)) (not (in_diagram parts (r, c + 1)) && not (in_diagram parts (r + 1, c)))
+    h in
+    let q = and_split (not (in_diagram parts (r, c + 1))) (not (in_diagram parts (r + 1, c))) p.1 in
+    record {
+      inside = p.0;
+      right = not_true (in_diagram parts (r, c + 1)) q.0;
+      down = not_true (in_diagram parts (r + 1, c)) q.1;
+    }
+
+pub facts_removable : (parts : List ℕ) (r c : ℕ) → IsRemovable parts r c → is_removable parts (r, c) ≡ true
+facts_removable parts r c h =
+    and_join (in_diagram parts (r, c)) (not (in_diagram parts (r, c + 1)) && not (in_diagram parts (r + 1, c))) h.inside
+    (and_join (not (in_diagram parts (r, c + 1))) (not (in_diagram parts (r + 1, c))) (ap not h.right) (ap not h.down))
+
+-- ---- by the lengths of the rows
+
+-- the last node of a row is removable where the next row is shorter
+pub row_removable : (parts : List ℕ) (r : ℕ) → 1 ≤ r → part parts (r + 1) < part parts r →
+    is_removable parts (r, part parts r) ≡ true
+row_removable parts r hr h = facts_removable parts r (part parts r) (record {
+  inside = in_node parts r (part parts r) hr (omega arith) (omega arith);
+  right = out_node parts r (part parts r + 1) hr (omega arith) (omega arith);
+  down = out_node parts (r + 1) (part parts r) (omega arith) (omega arith) h;
+})
+
+pub removable_row : (parts : List ℕ) (r : ℕ) → is_removable parts (r, part parts r) ≡ true →
+    part parts (r + 1) < part parts r
+removable_row parts r h =
+    let f = removable_facts parts r (part parts r) h in
+    node_out parts (r + 1) (part parts r) (omega arith) (node_in parts r (part parts r) f.inside).column f.down
+
+-- a row that is shorter than the one above, or the first one, can gain a node
+pub row_addable : (parts : List ℕ) (r : ℕ) → 1 ≤ r → (1 < r → part parts r < part parts (r - 1)) →
+    is_addable parts (r, part parts r + 1) ≡ true
+row_addable parts r hr h = facts_addable parts r (part parts r + 1) (record {
+  outside = out_node parts r (part parts r + 1) hr (omega arith) (omega arith);
+  left = beside (le_or_lt (part parts r) 0);
+  up = above (le_or_lt r 1);
+})
+  where
+    beside : (part parts r ≤ 0) ⊎ (0 < part parts r) →
+        (part parts r + 1 ≡ 1) ⊎ (in_diagram parts (r, part parts r + 1 - 1) ≡ true)
+    beside (inl z) = inl (omega arith)
+    beside (inr w) = inr (in_node parts r (part parts r + 1 - 1) hr (omega arith) (omega arith))
+
+    above : (r ≤ 1) ⊎ (1 < r) → (r ≡ 1) ⊎ (in_diagram parts (r - 1, part parts r + 1) ≡ true)
+    above (inl z) = inl (omega arith)
+    above (inr w) =
+        let s : part parts r < part parts (r - 1) = h w in
+        inr (in_node parts (r - 1) (part parts r + 1) (omega arith) (omega arith) (omega arith))
+
+pub addable_row : (parts : List ℕ) (r : ℕ) → is_addable parts (r, part parts r + 1) ≡ true → 1 < r →
+    part parts r < part parts (r - 1)
+addable_row parts r h w = above (addable_facts parts r (part parts r + 1) h).up
+  where
+    above : (r ≡ 1) ⊎ (in_diagram parts (r - 1, part parts r + 1) ≡ true) → part parts r < part parts (r - 1)
+    above (inl e) = absurd (omega arith)
+    above (inr i) = let v = node_in parts (r - 1) (part parts r + 1) i in omega (arith, v.within)
