@@ -7,7 +7,7 @@ use Rattle.sp_defs.specs.Node.{is_addable}
 use Rattle.sp_defs.specs.Signature.{grow}
 use Rattle.sp_lists.proofs.Elements.{le_or_lt}
 use Rattle.sp_shapes.proofs.Regular.{index_short}
-use Rattle.sp_good_law.proofs.CogoodNodes.{Room, IsPartition-grow}
+use Rattle.sp_shapes.proofs.Grow.{Room, IsPartition-grow}
 use Rattle.sp_partition.specs.Held.{IsHeld}
 use Rattle.sp_partition.specs.Padded.{IsPadded}
 use Rattle.sp_partition.specs.declared.TheConstants.{CAPACITY}

@@ -4,7 +4,7 @@ use Rattle.std.specs.Bool.{IsTrue}
 use Rattle.std.specs.Cmp.{both_ways}
 use Rattle.sp_defs.specs.Partition.{IsPartition, is_regular}
 use Rattle.sp_shapes.proofs.Regular.{index_short, descends, regular_gap}
-use Rattle.sp_good_law.proofs.CogoodNodes.{full_rows}
+use Rattle.sp_shapes.proofs.Grow.{full_rows}
 use Rattle.sp_good_law.proofs.RowRegular.{rows_regular}
 
 abbrev pub Differ : ℕ → List ℕ → Type 0

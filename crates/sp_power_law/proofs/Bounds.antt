@@ -35,9 +35,9 @@ near_through b marks zero parts d x h = (omega arith, tt)
 near_through b [] (suc m) parts d x h = tt
 near_through b ((Addable, y) ∷ marks) (suc m) parts d x h =
     all_append (Near (unsigned_abs x + suc m * b)) (moves_through marks m (add_node parts y) d (x +ℤ d))
-        (moves_through marks (suc m) parts (d +ℤ pos 1) x)
+    (moves_through marks (suc m) parts (d +ℤ pos 1) x)
     (all_mono (Near (unsigned_abs (x +ℤ d) + m * b)) (Near (unsigned_abs x + suc m * b))
-        (moves_through marks m (add_node parts y) d (x +ℤ d))
+    (moves_through marks m (add_node parts y) d (x +ℤ d))
     (λ t g. further (unsigned_abs t.1) m g) (near_through b marks m (add_node parts y) d (x +ℤ d) (omega arith)))
     (near_through b marks (suc m) parts (d +ℤ pos 1) x (omega (arith, one_up d)))
   where
@@ -60,7 +60,7 @@ near_through b ((Removable, y) ∷ marks) (suc m) parts d x h =
 one_mark : (e i : ℕ) (parts : List ℕ) (r : ℕ) → 2 ≤ e → length (row_marks e i parts r) ≤ 1
 one_mark e i parts r he =
     subst (λ l. length l ≤ 1) (sym (row_marks_are e i parts r))
-        (by_case (addable_at e i parts r) (removable_at e i parts r) (not_both e i parts r he))
+    (by_case (addable_at e i parts r) (removable_at e i parts r) (not_both e i parts r he))
   where
     by_case : (a b : Bool) → (a ≡ true → b ≡ true → ⊥) →
         length {A = Mark}
@@ -74,8 +74,12 @@ few_marks : (e i : ℕ) (parts : List ℕ) (r n : ℕ) → 2 ≤ e →
     length (flat_map (row_marks e i parts) (range_with_len r n)) ≤ n
 few_marks e i parts r zero he = omega arith
 few_marks e i parts r (suc n) he =
-    omega (arith, length-append (row_marks e i parts r) (flat_map (row_marks e i parts) (range_with_len (r + 1) n)),
-        one_mark e i parts r he, few_marks e i parts (r + 1) n he)
+    omega (
+      arith,
+      length-append (row_marks e i parts r) (flat_map (row_marks e i parts) (range_with_len (r + 1) n)),
+      one_mark e i parts r he,
+      few_marks e i parts (r + 1) n he,
+    )
 
 pub length-signature : (e i : ℕ) (parts : List ℕ) → 2 ≤ e → length (signature e i parts) ≤ length parts + 1
 unfolding signature
@@ -87,9 +91,9 @@ pub near_moves : (e i m n : ℕ) (parts : List ℕ) → 2 ≤ e → IsPartitionO
 unfolding moves
 near_moves e i m n parts he h =
     all_mono (Near (0 + m * (n + 1))) (Near (m * (n + 1)))
-        (moves_through (signature e i parts) m parts (pos 0) (pos 0)) (λ t g. omega arith)
+    (moves_through (signature e i parts) m parts (pos 0) (pos 0)) (λ t g. omega arith)
     (near_through (n + 1) (signature e i parts) m parts (pos 0) (pos 0)
-        (omega (arith, length-signature e i parts he, length-degree parts h.partition, h.total)))
+    (omega (arith, length-signature e i parts he, length-degree parts h.partition, h.total)))
 
 -- ---- powers
 
@@ -102,19 +106,19 @@ unfolding arrivals
 near_shares e i m n b front [] he h k = tt
 near_shares e i m n b front (s ∷ es) he (h, hs) (k, ks) =
     all_append (λ t. (unsigned_abs t.2 ≤ m * (n + 1)) × PowersWithin b (polynomial_at (front ++ (s ∷ es)) t.1))
-        (map (λ t. (t.0, length front, t.1)) (moves e i m s.0)) (arrivals e i m (length front + 1) es)
+    (map (λ t. (t.0, length front, t.1)) (moves e i m s.0)) (arrivals e i m (length front + 1) es)
     (all_map (λ t. (unsigned_abs t.2 ≤ m * (n + 1)) × PowersWithin b (polynomial_at (front ++ (s ∷ es)) t.1))
-        (λ t. (t.0, length front, t.1)) (moves e i m s.0)
+    (λ t. (t.0, length front, t.1)) (moves e i m s.0)
     (all_mono (λ t. unsigned_abs t.1 ≤ m * (n + 1))
-        (λ t. (unsigned_abs t.1 ≤ m * (n + 1)) × PowersWithin b (polynomial_at (front ++ (s ∷ es)) (length front)))
-        (moves e i m s.0)
+    (λ t. (unsigned_abs t.1 ≤ m * (n + 1)) × PowersWithin b (polynomial_at (front ++ (s ∷ es)) (length front)))
+    (moves e i m s.0)
     (λ t g. (g, subst (λ l. PowersWithin b l) (sym (ap (λ x. x.1) (at_length front s es ([], [])))) k))
-        (near_moves e i m n s.0 he h)))
+    (near_moves e i m n s.0 he h)))
     (subst (λ l. AllByRecursion (λ t. (unsigned_abs t.2 ≤ m * (n + 1)) × PowersWithin b (polynomial_at l t.1))
-        (arrivals e i m (length front + 1) es)) (append_assoc front (s ∷ []) es)
+    (arrivals e i m (length front + 1) es)) (append_assoc front (s ∷ []) es)
     (subst (λ j. AllByRecursion
-        (λ t. (unsigned_abs t.2 ≤ m * (n + 1)) × PowersWithin b (polynomial_at ((front ++ (s ∷ [])) ++ es) t.1))
-        (arrivals e i m j es)) (length-append front (s ∷ []))
+    (λ t. (unsigned_abs t.2 ≤ m * (n + 1)) × PowersWithin b (polynomial_at ((front ++ (s ∷ [])) ++ es) t.1))
+    (arrivals e i m j es)) (length-append front (s ∷ []))
     (near_shares e i m n b (front ++ (s ∷ [])) es he hs ks)))
 
 -- A sum of what is near is near.
@@ -136,5 +140,5 @@ near_power e i m n b es nu he all same near h =
     (near_sum (m * (n + 1) + b) (share_of es) (filter (is_at nu) (arrivals e i m 0 es))
     (all_filter (λ t. PowersWithin (m * (n + 1) + b) (share_of es t)) (is_at nu) (arrivals e i m 0 es)
     (all_mono (λ t. (unsigned_abs t.2 ≤ m * (n + 1)) × PowersWithin b (polynomial_at es t.1))
-        (λ t. is_at nu t ≡ true → PowersWithin (m * (n + 1) + b) (share_of es t)) (arrivals e i m 0 es)
+    (λ t. is_at nu t ≡ true → PowersWithin (m * (n + 1) + b) (share_of es t)) (arrivals e i m 0 es)
     (λ t g _. near_share (m * (n + 1)) b es t g.0 g.1) (near_shares e i m n b [] es he all near))))

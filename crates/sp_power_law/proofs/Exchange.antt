@@ -36,7 +36,7 @@ filter-map : {X Y : Type 0} (t : Y → Bool) (f : X → Y) (xs : List X) →
 filter-map t f [] = refl
 filter-map t f (x ∷ xs) =
     elim (t (f x)) as (λ b. cond b (f x ∷ filter t (map f xs)) (filter t (map f xs)) ≡ map f
-        (cond b (x ∷ filter (λ x. t (f x)) xs) (filter (λ x. t (f x)) xs))) [
+    (cond b (x ∷ filter (λ x. t (f x)) xs) (filter (λ x. t (f x)) xs))) [
       | true ↦ ap (λ l. f x ∷ l) (filter-map t f xs)
       | false ↦ filter-map t f xs
     ]
@@ -62,7 +62,7 @@ module _ (e i m : ℕ) (he : 2 ≤ e) (nu : List ℕ) (pn : IsPartition nu) wher
       filter_append (is_at nu) (map (λ t. (t.0, place, t.1)) (moves e i m s.0)) (arrivals e i m (place + 1) es)
       ∙ ap₂ (λ a b. a ++ b)
       (filter-map (is_at nu) tagged (moves e i m s.0) ∙ ap (map tagged) (moves_to e i m s.0 nu he h pn)
-          ∙ one (is_move e i m s.0 nu))
+      ∙ one (is_move e i m s.0 nu))
       (arrivals_are (place + 1) es hs)
     where
       tagged : Reached → Arrival
@@ -80,10 +80,10 @@ module _ (e i m : ℕ) (he : 2 ≤ e) (nu : List ℕ) (pn : IsPartition nu) wher
   sum_at front [] = refl
   sum_at front (s ∷ es) =
       sum_over-append (cond (is_move e i m s.0 nu) ((nu, length front, exponent e i s.0 nu) ∷ []) [])
-          (arrivals_at e i m nu (length front + 1) es) (share_of (front ++ (s ∷ es)))
+      (arrivals_at e i m nu (length front + 1) es) (share_of (front ++ (s ∷ es)))
       ∙ ap₂ plus (one (is_move e i m s.0 nu))
       (ap₂ (λ k l. sum_over (arrivals_at e i m nu k es) (share_of l)) (sym (length-append front (s ∷ [])))
-          (sym (append_assoc front (s ∷ []) es)) ∙ sum_at (front ++ (s ∷ [])) es)
+      (sym (append_assoc front (s ∷ []) es)) ∙ sum_at (front ++ (s ∷ [])) es)
     where
       one : (b : Bool) →
           sum_over (cond b ((nu, length front, exponent e i s.0 nu) ∷ []) []) (share_of (front ++ (s ∷ es))) ≡ cond b
@@ -100,11 +100,11 @@ module _ (e i m : ℕ) (he : 2 ≤ e) (nu : List ℕ) (pn : IsPartition nu) wher
   size_at front [] = refl
   size_at front (s ∷ es) =
       sum_by-append (size_of (front ++ (s ∷ es)))
-          (cond (is_move e i m s.0 nu) ((nu, length front, exponent e i s.0 nu) ∷ []) [])
-          (arrivals_at e i m nu (length front + 1) es)
+      (cond (is_move e i m s.0 nu) ((nu, length front, exponent e i s.0 nu) ∷ []) [])
+      (arrivals_at e i m nu (length front + 1) es)
       ∙ ap₂ (λ a b. a + b) (one (is_move e i m s.0 nu))
       (ap₂ (λ k l. sum_by (size_of l) (arrivals_at e i m nu k es)) (sym (length-append front (s ∷ [])))
-          (sym (append_assoc front (s ∷ []) es)) ∙ size_at (front ++ (s ∷ [])) es)
+      (sym (append_assoc front (s ∷ []) es)) ∙ size_at (front ++ (s ∷ [])) es)
       ∙ sym (sum_by-cons (λ s. reach_size e i m nu s.0 s.1) s es)
     where
       one : (b : Bool) →
@@ -112,7 +112,7 @@ module _ (e i m : ℕ) (he : 2 ≤ e) (nu : List ℕ) (pn : IsPartition nu) wher
           (size s.1) 0
       one true =
           sum_by-cons (size_of (front ++ (s ∷ es))) (nu, length front, exponent e i s.0 nu) []
-              ∙ ap (λ x. size x.1 + 0) (at_length front s es ([], [])) ∙ add-zero (size s.1)
+          ∙ ap (λ x. size x.1 + 0) (at_length front s es ([], [])) ∙ add-zero (size s.1)
       one false = refl
 
   -- ---- the sum over the partitions of n
@@ -126,7 +126,7 @@ module _ (e i m : ℕ) (he : 2 ≤ e) (nu : List ℕ) (pn : IsPartition nu) wher
     unfolding divided_power sources
     power_is w =
         sum_over-filter (λ lambda. is_move e i m lambda nu) (partitions (degree nu - m))
-            (λ lambda. times (power (exponent e i lambda nu)) (w lambda))
+        (λ lambda. times (power (exponent e i lambda nu)) (w lambda))
         ∙ ap (λ k. sum_over (partitions k) (λ lambda. reach e i m nu lambda (w lambda))) source_degree
 
     size_is : (w : Vector) →
@@ -142,9 +142,9 @@ module _ (e i m : ℕ) (he : 2 ≤ e) (nu : List ℕ) (pn : IsPartition nu) wher
         ap (λ b. cond b (reach e i m nu lambda (t ∷ p)) []) (lt-ltb 0 (length (t ∷ p)) (omega arith))
     nonzero_reach lambda [] =
         elim (is_move e i m lambda nu) as (λ b. [] ≡ cond b (times (power (exponent e i lambda nu)) []) []) [
-      | true ↦ sym (times_nought (power (exponent e i lambda nu)))
-      | false ↦ refl
-    ]
+          | true ↦ sym (times_nought (power (exponent e i lambda nu)))
+          | false ↦ refl
+        ]
 
     nonzero_size : (lambda : List ℕ) (p : Laurent) →
         cond (nat_lt 0 (length p)) (reach_size e i m nu lambda p) 0 ≡ reach_size e i m nu lambda p
@@ -158,9 +158,9 @@ module _ (e i m : ℕ) (he : 2 ≤ e) (nu : List ℕ) (pn : IsPartition nu) wher
         (λ lambda. reach e i m nu lambda (w lambda))
     entries_sum w =
         sum_over-filter (λ s. nat_lt 0 (length s.1)) (map (λ lambda. (lambda, w lambda)) (partitions n))
-            (λ s. reach e i m nu s.0 s.1)
+        (λ s. reach e i m nu s.0 s.1)
         ∙ sum_over-map (λ lambda. (lambda, w lambda)) (partitions n)
-            (λ s. cond (nat_lt 0 (length s.1)) (reach e i m nu s.0 s.1) [])
+        (λ s. cond (nat_lt 0 (length s.1)) (reach e i m nu s.0 s.1) [])
         ∙ ap (sum_over (partitions n)) (λ j lambda. nonzero_reach lambda (w lambda) j)
 
     entries_size : (w : Vector) →
@@ -168,9 +168,9 @@ module _ (e i m : ℕ) (he : 2 ≤ e) (nu : List ℕ) (pn : IsPartition nu) wher
         (λ lambda. reach_size e i m nu lambda (w lambda)) (partitions n)
     entries_size w =
         sum-filter (λ s. nat_lt 0 (length s.1)) (λ s. reach_size e i m nu s.0 s.1)
-            (map (λ lambda. (lambda, w lambda)) (partitions n))
+        (map (λ lambda. (lambda, w lambda)) (partitions n))
         ∙ sum-map (λ s. cond (nat_lt 0 (length s.1)) (reach_size e i m nu s.0 s.1) 0) (λ lambda. (lambda, w lambda))
-            (partitions n)
+        (partitions n)
         ∙ ap (λ f. sum_by f (partitions n)) (λ j lambda. nonzero_size lambda (w lambda) j)
 
     -- ---- the two together; `same` is what holds of the entries of every vector

@@ -4,7 +4,7 @@ use Rattle.std.proofs.Common.{refl, sym, ◌∙◌, ap, arith, ◌⊎◌, inl, i
 use Rattle.sp_defs.specs.Partition.{part}
 use Rattle.sp_defs.specs.Node.{in_diagram, residue, is_addable, is_removable}
 use Rattle.sp_lists.proofs.Elements.{and_split, and_join, le_or_lt}
-use Rattle.sp_shapes.proofs.Diagram.{in_node, node_in}
+use Rattle.sp_shapes.proofs.Corners.{row_addable, addable_row}
 use Rattle.sp_shapes.proofs.Moves.{out_node}
 use Rattle.sp_shapes.proofs.Regular.{index_short}
 use Rattle.sp_shapes.proofs.Residues.{right_differs}
@@ -20,60 +20,15 @@ pub record Gains (e i : ℕ) (parts : List ℕ) (r : ℕ) : Type 0 where
   pub room : 1 < r → part parts r < part parts (r - 1)
   pub residue_is : residue e (r, part parts r + 1) ≡ i
 
-or_split : (a b : Bool) → (a || b) ≡ true → (a ≡ true) ⊎ (b ≡ true)
-or_split true b h = inl refl
-or_split false b h = inr h
-
-or_left : (a b : Bool) → a ≡ true → (a || b) ≡ true
-or_left a b h = ap (λ x. x || b) h
-
-or_right : (a b : Bool) → b ≡ true → (a || b) ≡ true
-or_right true b h = refl
-or_right false b h = h
-
--- the three tests of `is_addable` at the place after a row
-abbrev left_of : List ℕ → ℕ → Bool
-left_of parts r = nat_eq (part parts r + 1) 1 || in_diagram parts (r, part parts r + 1 - 1)
-
-abbrev over : List ℕ → ℕ → Bool
-over parts r = nat_eq r 1 || in_diagram parts (r - 1, part parts r + 1)
-
 pub addable_facts : (e i : ℕ) (parts : List ℕ) (r : ℕ) → addable_at e i parts r ≡ true → Gains e i parts r
 addable_facts e i parts r h =
     let p = and_split (is_addable parts (r, part parts r + 1)) (nat_eq (residue e (r, part parts r + 1)) i) h in
-    let q = and_split (not (in_diagram parts (r, part parts r + 1))) (left_of parts r && over parts r) p.0 in
-    let o = and_split (left_of parts r) (over parts r) q.1 in
-    record {
-      room = λ more. above_it more (or_split (nat_eq r 1) (in_diagram parts (r - 1, part parts r + 1)) o.1);
-      residue_is = eqb-true (residue e (r, part parts r + 1)) i p.1;
-    }
-  where
-    above_it : 1 < r → (nat_eq r 1 ≡ true) ⊎ (in_diagram parts (r - 1, part parts r + 1) ≡ true) →
-        part parts r < part parts (r - 1)
-    above_it more (inl first) = let one : r ≡ 1 = eqb-true r 1 first in absurd (omega arith)
-    above_it more (inr inside) = let v = node_in parts (r - 1) (part parts r + 1) inside in omega (arith, v.within)
+    record { room = addable_row parts r p.0; residue_is = eqb-true (residue e (r, part parts r + 1)) i p.1 }
 
 pub facts_addable : (e i : ℕ) (parts : List ℕ) (r : ℕ) → 1 ≤ r → Gains e i parts r → addable_at e i parts r ≡ true
 facts_addable e i parts r hr g =
     and_join (is_addable parts (r, part parts r + 1)) (nat_eq (residue e (r, part parts r + 1)) i)
-    (and_join (not (in_diagram parts (r, part parts r + 1))) (left_of parts r && over parts r)
-    (ap not (out_node parts r (part parts r + 1) hr (omega arith) (omega arith)))
-    (and_join (left_of parts r) (over parts r) (left (le_or_lt (part parts r) 0)) (up (le_or_lt r 1))))
-    (eq-eqb (residue e (r, part parts r + 1)) i g.residue_is)
-  where
-    left : (part parts r ≤ 0) ⊎ (0 < part parts r) → left_of parts r ≡ true
-    left (inl none) =
-        or_left (nat_eq (part parts r + 1) 1) (in_diagram parts (r, part parts r + 1 - 1))
-        (eq-eqb (part parts r + 1) 1 (omega arith))
-    left (inr some) =
-        or_right (nat_eq (part parts r + 1) 1) (in_diagram parts (r, part parts r + 1 - 1))
-        (in_node parts r (part parts r + 1 - 1) hr (omega arith) (omega arith))
-
-    up : (r ≤ 1) ⊎ (1 < r) → over parts r ≡ true
-    up (inl first) = or_left (nat_eq r 1) (in_diagram parts (r - 1, part parts r + 1)) (eq-eqb r 1 (omega arith))
-    up (inr more) =
-        or_right (nat_eq r 1) (in_diagram parts (r - 1, part parts r + 1))
-        (in_node parts (r - 1) (part parts r + 1) (omega arith) (omega arith) (omega (arith, g.room more)))
+    (row_addable parts r hr g.room) (eq-eqb (residue e (r, part parts r + 1)) i g.residue_is)
 
 pub same_tests : (a b : Bool) → (a ≡ true → b ≡ true) → (b ≡ true → a ≡ true) → a ≡ b
 same_tests true b f g = sym (f refl)
@@ -110,7 +65,7 @@ pub not_both : (e i : ℕ) (parts : List ℕ) (r : ℕ) → 2 ≤ e → addable_
 not_both e i parts r he a b = right_differs e r (part parts r) he
     ((addable_facts e i parts r a).residue_is
     ∙ sym (eqb-true (residue e (r, part parts r)) i
-        (and_split (is_removable parts (r, part parts r)) (nat_eq (residue e (r, part parts r)) i) b).1))
+    (and_split (is_removable parts (r, part parts r)) (nat_eq (residue e (r, part parts r)) i) b).1))
 
 pub not_true : (b : Bool) → (b ≡ true → ⊥) → b ≡ false
 not_true true f = absurd (f refl)

@@ -86,7 +86,7 @@ same_entries_at w (x ∷ hs) (q ∷ ps) uh up h k =
     by_order : (o : Ordering) → compare x q ≡ o →
         (AllByRecursion (λ x. Occurs x ps) hs → AllByRecursion (Left w hs) ps → entries_at w hs ≡ entries_at w ps) →
         (AllByRecursion (λ x. Occurs x ps) (x ∷ hs) → AllByRecursion (Left w (x ∷ hs)) ps →
-            entries_at w (x ∷ hs) ≡ entries_at w ps) →
+        entries_at w (x ∷ hs) ≡ entries_at w ps) →
         entries_at w (x ∷ hs) ≡ entries_at w (q ∷ ps)
     by_order Equal is both right =
         let same : x ≡ q = same_lists x q is in
@@ -119,7 +119,7 @@ same_greatest : (f : List ℕ → ℕ) (hs ps : List (List ℕ)) → AllByRecurs
 same_greatest f hs ps h k = antisymm
     (greatest_within (greatest (map f ps)) (map f hs) (map_within f (greatest (map f ps)) hs
     (all_mono (λ x. Occurs x ps) (λ x. f x ≤ greatest (map f ps)) hs
-        (λ x o. occurs_at (λ x. f x ≤ greatest (map f ps)) x ps o each_in_ps) h)))
+    (λ x o. occurs_at (λ x. f x ≤ greatest (map f ps)) x ps o each_in_ps) h)))
     (greatest_within (greatest (map f hs)) (map f ps) (map_within f (greatest (map f hs)) ps
     (all_mono (λ q. Occurs q hs ⊎ (f q ≡ 0)) (λ q. f q ≤ greatest (map f hs)) ps (λ q o. below q o) k)))
   where
@@ -144,11 +144,11 @@ unfolding arrivals
 all_targets e i m n place [] he h = tt
 all_targets e i m n place (s ∷ es) he (h, hs) =
     all_append (λ t. IsPartitionOf (n + m) t.0) (map (λ t. (t.0, place, t.1)) (moves e i m s.0))
-        (arrivals e i m (place + 1) es)
+    (arrivals e i m (place + 1) es)
     (all_map (λ t. IsPartitionOf (n + m) t.0) (λ t. (t.0, place, t.1)) (moves e i m s.0)
     (all_mono (IsMoveOf e i m s.0) (λ t. IsPartitionOf (n + m) t.0) (moves e i m s.0)
-        (λ t g. record { partition = g.partition; total = g.degree_is ∙ ap (λ k. k + m) h.total })
-        (all_moves e i m s.0 he h.partition)))
+    (λ t g. record { partition = g.partition; total = g.degree_is ∙ ap (λ k. k + m) h.total })
+    (all_moves e i m s.0 he h.partition)))
     (all_targets e i m n (place + 1) es he hs)
 
 map-alike : {X Y : Type 0} (f g : X → Y) (xs : List X) → AllByRecursion (λ x. f x ≡ g x) xs → map f xs ≡ map g xs
@@ -192,27 +192,27 @@ module _ (e i m n : ℕ) (he : 2 ≤ e) (es : Entries) (all : AllByRecursion (λ
   of_runs f g each =
       map-alike (λ run. f run.0 run.1) (λ run. g run.0) (runs ts)
       (all_mono (λ run. (run.1 ≡ filter (is_at run.0) ts) × IsPartitionOf (n + m) run.0)
-          (λ run. f run.0 run.1 ≡ g run.0) (runs ts)
+      (λ run. f run.0 run.1 ≡ g run.0) (runs ts)
       (λ run h. ap (f run.0) h.0 ∙ each run.0 h.1)
       (all_both (λ run. run.1 ≡ filter (is_at run.0) ts) (λ run. IsPartitionOf (n + m) run.0) (runs ts)
-          (runs-are ts ordered).exact all_runs))
+      (runs-are ts ordered).exact all_runs))
       ∙ map-heads g (runs ts)
 
   heads_occur : AllByRecursion (λ x. Occurs x (partitions (n + m))) (heads (runs ts))
   heads_occur = all_heads (λ x. Occurs x (partitions (n + m))) (runs ts)
       (all_mono (λ run. IsPartitionOf (n + m) run.0) (λ run. Occurs run.0 (partitions (n + m))) (runs ts)
-          (λ run h. each_partition (n + m) run.0 h.partition h.total) all_runs)
+      (λ run h. each_partition (n + m) run.0 h.partition h.total) all_runs)
 
   pub gathers : sums_of es (runs ts) ≡ entries (n + m) (divided_power e i m (vector_of es))
   unfolding sum_over
   gathers =
       ap (filter (λ t. nat_lt 0 (length t.1)))
       (of_runs (λ nu run. (nu, sum_over run (share_of es))) (λ nu. (nu, divided_power e i m (vector_of es) nu))
-          (λ nu h. ap (λ p. (nu, p)) (sum_is nu h)))
+      (λ nu h. ap (λ p. (nu, p)) (sum_is nu h)))
       ∙ same_entries_at (divided_power e i m (vector_of es)) (heads (runs ts)) (partitions (n + m))
-          (runs-are ts ordered).ascending (partitions_ascend (n + m)) heads_occur
+      (runs-are ts ordered).ascending (partitions_ascend (n + m)) heads_occur
       (all_mono (IsPartitionOf (n + m)) (Left (divided_power e i m (vector_of es)) (heads (runs ts)))
-          (partitions (n + m)) (λ nu h. none nu h (has_run nu ts)) (all_partitions (n + m)))
+      (partitions (n + m)) (λ nu h. none nu h (has_run nu ts)) (all_partitions (n + m)))
     where
       none : (nu : List ℕ) → IsPartitionOf (n + m) nu → Occurs nu (heads (runs ts)) ⊎ (filter (is_at nu) ts ≡ []) →
           Left (divided_power e i m (vector_of es)) (heads (runs ts)) nu
@@ -224,7 +224,7 @@ module _ (e i m n : ℕ) (he : 2 ≤ e) (es : Entries) (all : AllByRecursion (λ
       ap greatest (of_runs (λ nu run. sum_by (size_of es) run) (reaching_size e i m (vector_of es)) size_is)
       ∙ same_greatest (reaching_size e i m (vector_of es)) (heads (runs ts)) (partitions (n + m)) heads_occur
       (all_mono (IsPartitionOf (n + m)) (λ q. Occurs q (heads (runs ts)) ⊎ (reaching_size e i m (vector_of es) q ≡ 0))
-          (partitions (n + m)) (λ nu h. none nu h (has_run nu ts)) (all_partitions (n + m)))
+      (partitions (n + m)) (λ nu h. none nu h (has_run nu ts)) (all_partitions (n + m)))
     where
       none : (nu : List ℕ) → IsPartitionOf (n + m) nu → Occurs nu (heads (runs ts)) ⊎ (filter (is_at nu) ts ≡ []) →
           Occurs nu (heads (runs ts)) ⊎ (reaching_size e i m (vector_of es) nu ≡ 0)

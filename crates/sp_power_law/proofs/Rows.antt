@@ -35,7 +35,7 @@ pub row_marks_are : (e i : ℕ) (parts : List ℕ) (r : ℕ) →
     (addable_at e i parts r) ((Addable, (r, part parts r + 1)) ∷ []) []
 row_marks_are e i parts r =
     filter_two (λ m. nat_eq (residue e m.1) i) (is_removable parts (r, part parts r))
-        (is_addable parts (r, part parts r + 1)) (Removable, (r, part parts r)) (Addable, (r, part parts r + 1))
+    (is_addable parts (r, part parts r + 1)) (Removable, (r, part parts r)) (Addable, (r, part parts r + 1))
 
 -- ---- the counts above the next row are those above this row and those in it
 
@@ -81,7 +81,7 @@ elsewhere : (g : ℕ → Bool) (r a n : ℕ) → ((s : ℕ) → a ≤ s → s < 
     count_by (λ s. g s && nat_eq s r) (range_with_len a n) ≡ 0
 elsewhere g r a n ne = count_zero (λ s. g s && nat_eq s r) (range_with_len a n)
     (range_all (λ s. (g s && nat_eq s r) ≡ false) a n
-        (λ s lo hi. and_false (g s) (nat_eq s r) (ne_eqb s r (ne s lo hi))))
+    (λ s lo hi. and_false (g s) (nat_eq s r) (ne_eqb s r (ne s lo hi))))
 
 here : (g : ℕ → Bool) (r a n : ℕ) → a ≤ r → r < a + n →
     count_by (λ s. g s && nat_eq s r) (range_with_len a n) ≡ cond (g r) 1 0
@@ -95,13 +95,13 @@ here g r a (suc n) lo hi = count-cons (λ s. g s && nat_eq s r) a (range_with_le
     settle later (inl le) =
         let same : a ≡ r = omega arith in
         let first : ◌≡◌ {A = ℕ} (cond (g a && nat_eq a r) 1 0) (cond (g r) 1 0) =
-            ap₂ (λ b s. cond (g s && b) 1 0) (eq-eqb a r same) same ∙ ap (λ b. cond b 1 0) (and_true (g r)) in
+        ap₂ (λ b s. cond (g s && b) 1 0) (eq-eqb a r same) same ∙ ap (λ b. cond b 1 0) (and_true (g r)) in
         let rest : count_by (λ s. g s && nat_eq s r) (range_with_len (a + 1) n) ≡ 0 =
-            elsewhere g r (a + 1) n (λ s lo hi. omega arith) in
+        elsewhere g r (a + 1) n (λ s lo hi. omega arith) in
         omega (arith, first, rest)
     settle later (inr lt) =
         let first : ◌≡◌ {A = ℕ} (cond (g a && nat_eq a r) 1 0) 0 =
-            ap (λ b. cond b 1 0) (and_false (g a) (nat_eq a r) (ne_eqb a r (omega arith))) in
+        ap (λ b. cond b 1 0) (and_false (g a) (nat_eq a r) (ne_eqb a r (omega arith))) in
         omega (arith, first, later (omega arith) (omega arith))
 
 -- ---- addable nodes
@@ -116,11 +116,11 @@ row_addable : (e i : ℕ) (parts : List ℕ) (r : ℕ) → 1 ≤ r →
 row_addable e i parts r hr =
     count-filter (in_row e i r) (is_addable parts) (row_ends parts)
     ∙ count-map (λ x. is_addable parts x && in_row e i r x) (λ s. (s, part parts s + 1))
-        (from_one_to (length parts + 1))
+    (from_one_to (length parts + 1))
     ∙ count-alike (λ s. is_addable parts (s, part parts s + 1) && in_row e i r (s, part parts s + 1))
-        (λ s. addable_at e i parts s && nat_eq s r) (from_one_to (length parts + 1))
+    (λ s. addable_at e i parts s && nat_eq s r) (from_one_to (length parts + 1))
     (all_every (λ s. (is_addable parts (s, part parts s + 1) && in_row e i r (s, part parts s + 1)) ≡
-        (addable_at e i parts s && nat_eq s r)) (from_one_to (length parts + 1))
+    (addable_at e i parts s && nat_eq s r)) (from_one_to (length parts + 1))
     (λ s. and_assoc (is_addable parts (s, part parts s + 1)) (nat_eq (residue e (s, part parts s + 1)) i) (nat_eq s r)))
     ∙ settle (le_or_lt r (length parts + 1))
   where
@@ -145,9 +145,9 @@ unfolding nodes_from
 row_count g a [] k = refl
 row_count g a (p ∷ parts) k =
     sum_by-append (λ x. cond (g x && nat_eq x.0 (a + k)) 1 0) (map (λ c. (a, c)) (from_one_to p))
-        (nodes_from (suc a) parts)
+    (nodes_from (suc a) parts)
     ∙ ap (λ n. n + count_by (λ x. g x && nat_eq x.0 (a + k)) (nodes_from (suc a) parts))
-        (count-map (λ x. g x && nat_eq x.0 (a + k)) (λ c. (a, c)) (from_one_to p))
+    (count-map (λ x. g x && nat_eq x.0 (a + k)) (λ c. (a, c)) (from_one_to p))
     ∙ by_row k (row_count g (suc a) parts)
   where
     by_row : (k : ℕ) →
@@ -157,15 +157,15 @@ row_count g a (p ∷ parts) k =
         (nodes_from (suc a) parts) ≡ count_by (λ c. g (a + k, c)) (from_one_to (slice_index (p ∷ parts) k))
     by_row zero further =
         let this : count_by (λ c. g (a, c) && nat_eq a (a + 0)) (from_one_to p) ≡ count_by (λ c. g (a + 0, c))
-            (from_one_to p) =
-            count-alike (λ c. g (a, c) && nat_eq a (a + 0)) (λ c. g (a + 0, c)) (from_one_to p)
-            (all_every (λ c. (g (a, c) && nat_eq a (a + 0)) ≡ g (a + 0, c)) (from_one_to p)
-                (λ c. ap₂ (λ b n. g (n, c) && b) (eq-eqb a (a + 0) (plain a)) (plain a) ∙ and_true (g (a + 0, c)))) in
+        (from_one_to p) =
+        count-alike (λ c. g (a, c) && nat_eq a (a + 0)) (λ c. g (a + 0, c)) (from_one_to p)
+        (all_every (λ c. (g (a, c) && nat_eq a (a + 0)) ≡ g (a + 0, c)) (from_one_to p)
+        (λ c. ap₂ (λ b n. g (n, c) && b) (eq-eqb a (a + 0) (plain a)) (plain a) ∙ and_true (g (a + 0, c)))) in
         let below : count_by (λ x. g x && nat_eq x.0 (a + 0)) (nodes_from (suc a) parts) ≡ 0 =
-            count_zero (λ x. g x && nat_eq x.0 (a + 0)) (nodes_from (suc a) parts)
-            (nodes_all (λ x. (g x && nat_eq x.0 (a + 0)) ≡ false) (suc a) parts
-                (λ j c lo hi. and_false (g (suc a + j, c)) (nat_eq (suc a + j) (a + 0))
-                (ne_eqb (suc a + j) (a + 0) (apart a j)))) in
+        count_zero (λ x. g x && nat_eq x.0 (a + 0)) (nodes_from (suc a) parts)
+        (nodes_all (λ x. (g x && nat_eq x.0 (a + 0)) ≡ false) (suc a) parts
+        (λ j c lo hi. and_false (g (suc a + j, c)) (nat_eq (suc a + j) (a + 0))
+        (ne_eqb (suc a + j) (a + 0) (apart a j)))) in
         omega (arith, this, below)
       where
         plain : (a : ℕ) → a ≡ a + 0
@@ -175,13 +175,13 @@ row_count g a (p ∷ parts) k =
         apart a j = omega arith
     by_row (suc k) further =
         let this : count_by (λ c. g (a, c) && nat_eq a (a + suc k)) (from_one_to p) ≡ 0 =
-            count_zero (λ c. g (a, c) && nat_eq a (a + suc k)) (from_one_to p)
-            (all_every (λ c. (g (a, c) && nat_eq a (a + suc k)) ≡ false) (from_one_to p)
-                (λ c. and_false (g (a, c)) (nat_eq a (a + suc k)) (ne_eqb a (a + suc k) (apart a k)))) in
+        count_zero (λ c. g (a, c) && nat_eq a (a + suc k)) (from_one_to p)
+        (all_every (λ c. (g (a, c) && nat_eq a (a + suc k)) ≡ false) (from_one_to p)
+        (λ c. and_false (g (a, c)) (nat_eq a (a + suc k)) (ne_eqb a (a + suc k) (apart a k)))) in
         let below : count_by (λ x. g x && nat_eq x.0 (a + suc k)) (nodes_from (suc a) parts) ≡ count_by
-            (λ c. g (a + suc k, c)) (from_one_to (slice_index parts k)) =
-            subst (λ n. count_by (λ x. g x && nat_eq x.0 n) (nodes_from (suc a) parts) ≡ count_by (λ c. g (n, c))
-                (from_one_to (slice_index parts k))) (moved a k) (further k) in
+        (λ c. g (a + suc k, c)) (from_one_to (slice_index parts k)) =
+        subst (λ n. count_by (λ x. g x && nat_eq x.0 n) (nodes_from (suc a) parts) ≡ count_by (λ c. g (n, c))
+        (from_one_to (slice_index parts k))) (moved a k) (further k) in
         omega (arith, this, below)
       where
         apart : (a k : ℕ) → a ≢ a + suc k
@@ -202,7 +202,7 @@ count_last h a zero f = count-cons h a [] ∙ ap (λ n. cond (h n) 1 0 + 0) (pla
 count_last h a (suc n) f =
     let first : ◌≡◌ {A = ℕ} (cond (h a) 1 0) 0 = ap (λ b. cond b 1 0) (f a (omega arith) (omega arith)) in
     let rest : count_by h (range_with_len (a + 1) (suc n)) ≡ cond (h (a + suc n)) 1 0 =
-        count_last h (a + 1) n (λ c lo hi. f c (omega arith) (omega arith)) ∙ ap (λ m. cond (h m) 1 0) (moved a n) in
+    count_last h (a + 1) n (λ c lo hi. f c (omega arith) (omega arith)) ∙ ap (λ m. cond (h m) 1 0) (moved a n) in
     omega (arith, count-cons h a (range_with_len (a + 1) (suc n)), first, rest)
   where
     moved : (a n : ℕ) → a + 1 + n ≡ a + suc n
@@ -214,13 +214,13 @@ row_removable : (e i : ℕ) (parts : List ℕ) (r : ℕ) → 1 ≤ r →
 row_removable e i parts r hr =
     count-filter (in_row e i r) (is_removable parts) (nodes parts)
     ∙ count-alike (λ x. is_removable parts x && in_row e i r x)
-        (λ x. (is_removable parts x && nat_eq (residue e x) i) && nat_eq x.0 r) (nodes parts)
+    (λ x. (is_removable parts x && nat_eq (residue e x) i) && nat_eq x.0 r) (nodes parts)
     (all_every (λ x. (is_removable parts x && in_row e i r x) ≡
-        ((is_removable parts x && nat_eq (residue e x) i) && nat_eq x.0 r)) (nodes parts)
+    ((is_removable parts x && nat_eq (residue e x) i) && nat_eq x.0 r)) (nodes parts)
     (λ x. and_assoc (is_removable parts x) (nat_eq (residue e x) i) (nat_eq x.0 r)))
     ∙ subst (λ n. count_by (λ x. (is_removable parts x && nat_eq (residue e x) i) && nat_eq x.0 n)
-        (nodes parts) ≡ count_by (λ c. is_removable parts (n, c) && nat_eq (residue e (n, c)) i)
-        (from_one_to (part parts r))) (back (r - 1) hr)
+    (nodes parts) ≡ count_by (λ c. is_removable parts (n, c) && nat_eq (residue e (n, c)) i)
+    (from_one_to (part parts r))) (back (r - 1) hr)
     (row_count (λ x. is_removable parts x && nat_eq (residue e x) i) 1 parts (r - 1))
     ∙ by_length (part parts r) refl
   where
@@ -230,7 +230,7 @@ row_removable e i parts r hr =
     inner : (c : ℕ) → 1 ≤ c → c < part parts r → (is_removable parts (r, c) && nat_eq (residue e (r, c)) i) ≡ false
     inner c lo hi =
         ap (λ b. (in_diagram parts (r, c) && (not b && not (in_diagram parts (r + 1, c)))) && nat_eq
-            (residue e (r, c)) i) (in_node parts r (c + 1) hr (omega arith) (omega arith))
+        (residue e (r, c)) i) (in_node parts r (c + 1) hr (omega arith) (omega arith))
         ∙ ap (λ b. b && nat_eq (residue e (r, c)) i) (and_false (in_diagram parts (r, c)) false refl)
 
     by_length : (p : ℕ) → part parts r ≡ p →
@@ -247,7 +247,7 @@ row_removable e i parts r hr =
             outside = not_true (in_diagram parts (r, 0)) (λ h. let v = node_in parts r 0 h in omega (arith, v.column))
     by_length (suc p) is =
         count_last (λ c. is_removable parts (r, c) && nat_eq (residue e (r, c)) i) 1 p
-            (λ c lo hi. inner c lo (omega arith))
+        (λ c lo hi. inner c lo (omega arith))
         ∙ ap (λ c. cond (is_removable parts (r, c) && nat_eq (residue e (r, c)) i) 1 0) (one_more p ∙ sym is)
       where
         one_more : (p : ℕ) → 1 + p ≡ suc p
@@ -263,7 +263,7 @@ above_removable-next e i parts r hr = above_next e i r (removable parts)
 none_above : (e i : ℕ) (xs : List Node) → AllByRecursion (λ x. 1 ≤ x.0) xs → above e i 1 xs ≡ 0
 none_above e i xs h = count_zero (λ x. nat_eq (residue e x) i && nat_lt x.0 1) xs
     (all_mono (λ x. 1 ≤ x.0) (λ x. (nat_eq (residue e x) i && nat_lt x.0 1) ≡ false) xs
-        (λ x lo. and_false (nat_eq (residue e x) i) (nat_lt x.0 1) (not_less x.0 lo)) h)
+    (λ x lo. and_false (nat_eq (residue e x) i) (nat_lt x.0 1) (not_less x.0 lo)) h)
   where
     not_less : (n : ℕ) → 1 ≤ n → nat_lt n 1 ≡ false
     not_less n h = grind (arith, nat_tests)

@@ -28,7 +28,7 @@ heads rs = map (λ run. run.0) rs
 pub earlier_than : (x y : List ℕ) → compare x y ≡ Greater → IsEarlier y x
 earlier_than x y h = nat_list_cmp_total.antisymm y x ∙ ap ordering_reverse h
 
-same_or_later : (x y : List ℕ) → is_lt (compare y x) ≡ false → (x ≡ y) ⊎ IsEarlier x y
+pub same_or_later : (x y : List ℕ) → is_lt (compare y x) ≡ false → (x ≡ y) ⊎ IsEarlier x y
 same_or_later x y h = by_order (compare y x) refl
   where
     by_order : (o : Ordering) → compare y x ≡ o → (x ≡ y) ⊎ IsEarlier x y
@@ -70,7 +70,7 @@ joined-heads : (P : List ℕ → Type 0) (t : Arrival) (rs : List Run) → P t.0
 joined-heads P t [] h hs = (h, tt)
 joined-heads P t (run ∷ rs) h (hr, hs) =
     elim (is_eq (compare t.0 run.0)) as (λ b. AllByRecursion (λ run. P run.0)
-        (cond b ((run.0, t ∷ run.1) ∷ rs) ((t.0, t ∷ []) ∷ run ∷ rs))) [
+    (cond b ((run.0, t ∷ run.1) ∷ rs) ((t.0, t ∷ []) ∷ run ∷ rs))) [
       | true ↦ (hr, hs)
       | false ↦ (h, (hr, hs))
     ]
@@ -98,9 +98,9 @@ kept_runs : (t : Arrival) (ts : List Arrival) (rs : List Run) → AllByRecursion
     AllByRecursion (λ run. run.1 ≡ filter (is_at run.0) (t ∷ ts)) rs
 kept_runs t ts rs early is =
     all_mono (λ run. IsEarlier t.0 run.0 × (run.1 ≡ filter (is_at run.0) ts))
-        (λ run. run.1 ≡ filter (is_at run.0) (t ∷ ts)) rs
+    (λ run. run.1 ≡ filter (is_at run.0) (t ∷ ts)) rs
     (λ run h. kept_run t ts run h.0 h.1)
-        (all_both (λ run. IsEarlier t.0 run.0) (λ run. run.1 ≡ filter (is_at run.0) ts) rs early is)
+    (all_both (λ run. IsEarlier t.0 run.0) (λ run. run.1 ≡ filter (is_at run.0) ts) rs early is)
 
 taken : (t : Arrival) (nu : List ℕ) (ts : List Arrival) → t.0 ≡ nu →
     t ∷ filter (is_at nu) ts ≡ filter (is_at nu) (t ∷ ts)
@@ -129,7 +129,7 @@ one_more t u ts run rs ((after, _), (later, _)) at h = by_order (compare t.0 run
         ap (λ l. t ∷ l) h.exact.0 ∙ taken t run.0 (u ∷ ts) same,
         kept_runs t (u ∷ ts) rs
             (subst (λ l. AllByRecursion (λ run. IsEarlier l run.0) rs) (sym same)
-                (from_heads (IsEarlier run.0) rs h.ascending.0)) h.exact.1,
+            (from_heads (IsEarlier run.0) rs h.ascending.0)) h.exact.1,
       );
     }
       where
@@ -180,7 +180,7 @@ joined-occurs : (nu : List ℕ) (t : Arrival) (rs : List Run) → Occurs nu (hea
 joined-occurs nu t [] h = absurd h
 joined-occurs nu t (run ∷ rs) h =
     elim (is_eq (compare t.0 run.0)) as (λ b. Occurs nu
-        (heads (cond b ((run.0, t ∷ run.1) ∷ rs) ((t.0, t ∷ []) ∷ run ∷ rs)))) [
+    (heads (cond b ((run.0, t ∷ run.1) ∷ rs) ((t.0, t ∷ []) ∷ run ∷ rs)))) [
       | true ↦ h
       | false ↦ inr h
     ]

@@ -43,8 +43,12 @@ pub start : (e i : ℕ) (parts : List ℕ) → IsPartition parts → Before e i 
 unfolding exponent int_sum
 start e i parts pp = record {
   partition = pp;
-  move = record { rows = λ k. omega arith; residues = λ r c hr hc w out. absurd (omega arith); count =
-      none_added parts pp };
+  move = record {
+    rows = λ k. omega arith;
+    residues = λ r c hr hc w out. absurd (omega arith);
+    count =
+        none_added parts pp;
+  };
   later = λ s lo. refl;
   difference_is = sym (ap₂ (λ m n. pos m -ℤ pos n) (above_addable-first e i parts) (above_removable-first e i parts));
   sum_is = sym (ap
@@ -61,9 +65,9 @@ above-alike e i xs ys (suc n) f =
     above_addable-next e i xs (suc n) (omega arith)
     ∙ ap₂ (λ m b. m + cond b 1 0)
     (subst (λ r. above e i r (addable xs) ≡ above e i r (addable ys)) (moved n)
-        (above-alike e i xs ys n (λ s lo hi. f s lo (omega arith))))
+    (above-alike e i xs ys n (λ s lo hi. f s lo (omega arith))))
     (addable_at-alike e i xs ys (suc n) (omega arith) (f (suc n) (omega arith) (omega arith))
-        (λ more. f (suc n - 1) (omega arith) (omega arith)))
+    (λ more. f (suc n - 1) (omega arith) (omega arith)))
     ∙ sym (above_addable-next e i ys (suc n) (omega arith))
   where
     moved : (n : ℕ) → n + 1 ≡ suc n
@@ -73,7 +77,7 @@ above_addable-alike : (e i : ℕ) (xs ys : List ℕ) (r : ℕ) → 1 ≤ r → (
     above e i r (addable xs) ≡ above e i r (addable ys)
 above_addable-alike e i xs ys r hr f =
     subst (λ n. above e i n (addable xs) ≡ above e i n (addable ys)) (back hr)
-        (above-alike e i xs ys (r - 1) (λ s lo hi. f s lo (omega arith)))
+    (above-alike e i xs ys (r - 1) (λ s lo hi. f s lo (omega arith)))
   where
     back : 1 ≤ r → r - 1 + 1 ≡ r
     back h = omega arith
@@ -103,9 +107,9 @@ sum-alike t f g (x ∷ xs) (h, hs) =
     elim (t x) as (λ b. t x ≡ b →
     int_sum (map g (cond b (x ∷ filter t xs) (filter t xs))) ≡ int_sum
     (map f (cond b (x ∷ filter t xs) (filter t xs)))) [
-  | true ↦ λ e. ap₂ (λ a b. a +ℤ b) (h e) (sum-alike t f g xs hs)
-  | false ↦ λ e. sum-alike t f g xs hs
-] refl
+      | true ↦ λ e. ap₂ (λ a b. a +ℤ b) (h e) (sum-alike t f g xs hs)
+      | false ↦ λ e. sum-alike t f g xs hs
+    ] refl
 
 one_more_term : (t : Node → Bool) (f g : Node → ℤ) (x : Node) (smaller larger : List Node) →
     OneMore x smaller larger → t x ≡ true → AllByRecursion (λ y. t y ≡ true → g y ≡ f y) smaller →
@@ -115,10 +119,10 @@ one_more_term t f g x smaller larger o tx h =
     ap (λ l. int_sum (map g (filter t l))) o.larger_is
     ∙ kept_sum t g o.front (x ∷ o.back)
     ∙ ap (λ b. int_sum (map g (filter t o.front)) +ℤ int_sum (map g (cond b (x ∷ filter t o.back) (filter t o.back))))
-        tx
+    tx
     ∙ ap₂ (λ a b. a +ℤ (g x +ℤ b))
-        (sum-alike t f g o.front (all_left (λ y. t y ≡ true → g y ≡ f y) o.front o.back kept))
-        (sum-alike t f g o.back (all_right (λ y. t y ≡ true → g y ≡ f y) o.front o.back kept))
+    (sum-alike t f g o.front (all_left (λ y. t y ≡ true → g y ≡ f y) o.front o.back kept))
+    (sum-alike t f g o.back (all_right (λ y. t y ≡ true → g y ≡ f y) o.front o.back kept))
     ∙ turned (int_sum (map f (filter t o.front))) (g x) (int_sum (map f (filter t o.back)))
     ∙ ap (λ s. s +ℤ g x) (sym (kept_sum t f o.front o.back) ∙ ap (λ l. int_sum (map f (filter t l))) (sym o.smaller_is))
   where
@@ -132,7 +136,7 @@ one_more_term t f g x smaller larger o tx h =
 
 module _ (e i : ℕ) (he : 2 ≤ e) (parts : List ℕ) (pp : IsPartition parts) where
   -- the node that a row could gain is addable in the partition so far just where it is in the first
-  same_addable : (r k : ℕ) (now : List ℕ) (d x : ℤ) → 1 ≤ r → Before e i parts r k now d x →
+  pub same_addable : (r k : ℕ) (now : List ℕ) (d x : ℤ) → 1 ≤ r → Before e i parts r k now d x →
       addable_at e i now r ≡ addable_at e i parts r
   same_addable r k now d x hr st = same_tests (addable_at e i now r) (addable_at e i parts r)
       (λ a. facts_addable e i parts r hr (earlier (addable_facts e i now r a)))
@@ -145,8 +149,11 @@ module _ (e i : ℕ) (he : 2 ≤ e) (parts : List ℕ) (pp : IsPartition parts) 
       over = st.move.rows (r - 1 - 1)
 
       grown : Gains e i parts r → Gains e i now r
-      grown g = record { room = λ more. omega (arith, g.room more, here, over); residue_is =
-          ap (λ p. residue e (r, p + 1)) here ∙ g.residue_is }
+      grown g = record {
+        room = λ more. omega (arith, g.room more, here, over);
+        residue_is =
+            ap (λ p. residue e (r, p + 1)) here ∙ g.residue_is;
+      }
 
       earlier : Gains e i now r → Gains e i parts r
       earlier g = record { room = λ more. settle more (le_or_lt (part parts (r - 1)) (part parts r)); residue_is = res }
@@ -177,10 +184,10 @@ module _ (e i : ℕ) (he : 2 ≤ e) (parts : List ℕ) (pp : IsPartition parts) 
     later = λ s lo. st.later s (omega arith);
     difference_is =
         let a : above e i (r + 1) (addable now) ≡ above e i r (addable now) + cond (addable_at e i parts r) 1 0 =
-            above_addable-next e i now r hr
-                ∙ ap (λ b. above e i r (addable now) + cond b 1 0) (same_addable r k now d x hr st) in
+        above_addable-next e i now r hr
+        ∙ ap (λ b. above e i r (addable now) + cond b 1 0) (same_addable r k now d x hr st) in
         sides d (above e i r (addable now)) (above e i r (removable parts)) (cond (addable_at e i parts r) 1 0)
-            (cond (removable_at e i parts r) 1 0) _ _ st.difference_is a (above_removable-next e i parts r hr);
+        (cond (removable_at e i parts r) 1 0) _ _ st.difference_is a (above_removable-next e i parts r hr);
     sum_is = st.sum_is;
   }
     where
@@ -224,8 +231,8 @@ module _ (e i : ℕ) (he : 2 ≤ e) (parts : List ℕ) (pp : IsPartition parts) 
         settle (inl a) (inl b) =
             let same : r - 1 ≡ j = omega arith in
             let more : slice_index (grow (r - 1) now) j ≡ slice_index now j + 1 =
-                subst (λ n. slice_index (grow (r - 1) now) n ≡ slice_index now n + 1) same
-                (grow_same now (r - 1) room.there) in
+            subst (λ n. slice_index (grow (r - 1) now) n ≡ slice_index now n + 1) same
+            (grow_same now (r - 1) room.there) in
             omega (arith, st.move.rows j, more)
         settle (inr a) b = other (λ same. omega arith)
         settle a (inr b) = other (λ same. omega arith)
@@ -267,20 +274,20 @@ module _ (e i : ℕ) (he : 2 ≤ e) (parts : List ℕ) (pp : IsPartition parts) 
     none_here : addable_at e i (grow (r - 1) now) r ≡ false
     none_here = not_true (addable_at e i (grow (r - 1) now) r)
         (λ a. right_differs e r (part now r + 1) he
-            (ap (λ p. residue e (r, p + 1)) (sym grown_here) ∙ (addable_facts e i (grow (r - 1) now) r a).residue_is
-            ∙ sym gains.residue_is))
+        (ap (λ p. residue e (r, p + 1)) (sym grown_here) ∙ (addable_facts e i (grow (r - 1) now) r a).residue_is
+        ∙ sym gains.residue_is))
 
     grown_difference : d ≡ pos (above e i (r + 1) (addable (grow (r - 1) now))) -ℤ pos
         (above e i (r + 1) (removable parts))
     grown_difference =
         st.difference_is ∙ ap₂ (λ m n. pos m -ℤ pos n)
         (sym (above_addable-next e i (grow (r - 1) now) r hr
-            ∙ ap₂ (λ m b. m + cond b 1 0) (same_above r hr (omega arith)) none_here
-            ∙ nothing (above e i r (addable now))))
+        ∙ ap₂ (λ m b. m + cond b 1 0) (same_above r hr (omega arith)) none_here
+        ∙ nothing (above e i r (addable now))))
         (sym (above_removable-next e i parts r hr
-            ∙ ap (λ b. above e i r (removable parts) + cond b 1 0)
-            (not_true (removable_at e i parts r) (not_both e i parts r he can))
-            ∙ nothing (above e i r (removable parts))))
+        ∙ ap (λ b. above e i r (removable parts) + cond b 1 0)
+        (not_true (removable_at e i parts r) (not_both e i parts r he can))
+        ∙ nothing (above e i r (removable parts))))
       where
         nothing : (n : ℕ) → n + 0 ≡ n
         nothing n = omega arith
@@ -293,7 +300,7 @@ module _ (e i : ℕ) (he : 2 ≤ e) (parts : List ℕ) (pp : IsPartition parts) 
     grown_sum =
         ap₂ (λ a b. a +ℤ b) st.sum_is (st.difference_is ∙ sym new_term)
         ∙ sym (one_more_term (λ y. not (in_diagram parts y)) (term now) (term (grow (r - 1) now))
-            (1 + (r - 1), part now r + 1) (nodes now) (nodes (grow (r - 1) now))
+        (1 + (r - 1), part now r + 1) (nodes now) (nodes (grow (r - 1) now))
         (nodes-grow 1 now (r - 1) room.there) outside old_terms)
       where
         row : 1 + (r - 1) ≡ r
@@ -312,7 +319,7 @@ module _ (e i : ℕ) (he : 2 ≤ e) (parts : List ℕ) (pp : IsPartition parts) 
             (nodes now)
         old_terms = all_nodes (λ y. not (in_diagram parts y) ≡ true → term (grow (r - 1) now) y ≡ term now y) now
             (λ s c hs hc w out. ap (λ m. pos m -ℤ pos (above e i s (removable parts)))
-                (same_above s hs (high s c hs hc w out (le_or_lt s r))))
+            (same_above s hs (high s c hs hc w out (le_or_lt s r))))
           where
             high : (s c : ℕ) → 1 ≤ s → 1 ≤ c → c ≤ part now s → not (in_diagram parts (s, c)) ≡ true →
                 (s ≤ r) ⊎ (r < s) → s ≤ r

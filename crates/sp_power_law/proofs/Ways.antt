@@ -28,7 +28,7 @@ moves_step : (e i : ℕ) (parts : List ℕ) (r m : ℕ) (rest : List Mark) (now 
 unfolding moves_through
 moves_step e i parts r m rest now d x he =
     ap (λ ms. moves_through (ms ++ rest) (suc m) now d x) (row_marks_are e i parts r)
-        ∙ by_case (addable_at e i parts r) (removable_at e i parts r) (not_both e i parts r he)
+    ∙ by_case (addable_at e i parts r) (removable_at e i parts r) (not_both e i parts r he)
   where
     by_case : (a b : Bool) → (a ≡ true → b ≡ true → ⊥) →
         moves_through
@@ -69,9 +69,11 @@ module _ (e i : ℕ) (he : 2 ≤ e) (parts : List ℕ) (pp : IsPartition parts) 
           (mv.residues r (part parts r + 1 + 1) hr (omega arith) (omega arith) (omega arith)
           ∙ sym (mv.residues r (part parts r + 1) hr (omega arith) (omega arith) (omega arith))))
       settle (inr lt) (inl one) =
-          inr (omega arith,
-          facts_addable e i parts r hr
-          (record { room = λ more. above_it more (le_or_lt (part parts (r - 1)) (part parts r)); residue_is = new }))
+          inr (
+            omega arith,
+            facts_addable e i parts r hr
+                (record { room = λ more. above_it more (le_or_lt (part parts (r - 1)) (part parts r)); residue_is = new }),
+          )
         where
           new : residue e (r, part parts r + 1) ≡ i
           new = mv.residues r (part parts r + 1) hr (omega arith) (omega arith) (omega arith)
@@ -81,9 +83,9 @@ module _ (e i : ℕ) (he : 2 ≤ e) (parts : List ℕ) (pp : IsPartition parts) 
           above_it more (inr room) = room
           above_it more (inl full) =
               absurd (below_differs e (r - 1) (part parts r + 1) he
-                  (ap (λ n. residue e (n, part parts r + 1)) back ∙ new
-                  ∙ sym (mv.residues (r - 1) (part parts r + 1) (omega arith) (omega arith) (omega (arith, descends))
-                  (omega arith))))
+              (ap (λ n. residue e (n, part parts r + 1)) back ∙ new
+              ∙ sym (mv.residues (r - 1) (part parts r + 1) (omega arith) (omega arith) (omega (arith, descends))
+              (omega arith))))
             where
               back : r - 1 + 1 ≡ r
               back = omega arith
@@ -121,19 +123,26 @@ module _ (e i : ℕ) (he : 2 ≤ e) (parts : List ℕ) (pp : IsPartition parts) 
   sound : (n r k m : ℕ) (now : List ℕ) (d x : ℤ) → 1 ≤ r → Before e i parts r k now d x →
       AllByRecursion (Reaches e i parts (k + m) r now) (moves_through (marks_from r n) m now d x)
   unfolding moves_through
-  sound n r k zero now d x hr st =
-      (record { partition = st.partition; move = subst (λ j. Move e i j parts now) (plain k) st.move; exponent_is =
-      st.sum_is; earlier = λ s lo hi. refl }, tt)
+  sound n r k zero now d x hr st = (
+    record {
+      partition = st.partition;
+      move = subst (λ j. Move e i j parts now) (plain k) st.move;
+      exponent_is =
+          st.sum_is;
+      earlier = λ s lo hi. refl;
+    },
+    tt,
+  )
     where
       plain : (k : ℕ) → k ≡ k + 0
       plain k = omega arith
   sound zero r k (suc m) now d x hr st = tt
   sound (suc n) r k (suc m) now d x hr st =
       subst (λ l. AllByRecursion (Reaches e i parts (k + suc m) r now) l)
-          (sym (moves_step e i parts r m (marks_from (r + 1) n) now d x he))
+      (sym (moves_step e i parts r m (marks_from (r + 1) n) now d x he))
       (all_append (Reaches e i parts (k + suc m) r now) (cond (addable_at e i parts r) chosen []) passed
       (elim (addable_at e i parts r) as (λ b. addable_at e i parts r ≡ b →
-          AllByRecursion (Reaches e i parts (k + suc m) r now) (cond b chosen [])) [
+      AllByRecursion (Reaches e i parts (k + suc m) r now) (cond b chosen [])) [
         | true ↦ λ can. all_mono (Reaches e i parts (k + 1 + m) (r + 1) (grow (r - 1) now))
             (Reaches e i parts (k + suc m) r now) chosen
             (λ t g. record {
@@ -144,12 +153,17 @@ module _ (e i : ℕ) (he : 2 ≤ e) (parts : List ℕ) (pp : IsPartition parts) 
                   ∙ grown_elsewhere e i he parts pp r k now d x hr st can s lo (λ same. omega arith);
             })
             (sound n (r + 1) (k + 1) m (grow (r - 1) now) d (x +ℤ d) (omega arith)
-                (choose e i he parts pp r k now d x hr st can))
+            (choose e i he parts pp r k now d x hr st can))
         | false ↦ λ _. tt
       ] refl)
       (all_mono (Reaches e i parts (k + suc m) (r + 1) now) (Reaches e i parts (k + suc m) r now) passed
-      (λ t g. record { partition = g.partition; move = g.move; exponent_is = g.exponent_is; earlier =
-          λ s lo hi. g.earlier s lo (omega arith) })
+      (λ t g. record {
+        partition = g.partition;
+        move = g.move;
+        exponent_is = g.exponent_is;
+        earlier =
+            λ s lo hi. g.earlier s lo (omega arith);
+      })
       (sound n (r + 1) k (suc m) now below x (omega arith) (pass e i he parts pp r k now d x hr st))))
     where
       moved : (k m : ℕ) → k + 1 + m ≡ k + suc m
@@ -174,21 +188,21 @@ module _ (e i : ℕ) (he : 2 ≤ e) (parts : List ℕ) (pp : IsPartition parts) 
   none_is nu (t ∷ xs) (h, hs) =
       elim (compare t.0 nu) as (λ o. compare t.0 nu ≡ o →
       cond (is_eq o) (t ∷ filter (is nu) xs) (filter (is nu) xs) ≡ []) [
-    | Less ↦ λ _. none_is nu xs hs
-    | Equal ↦ λ eq. absurd (h (same_lists t.0 nu eq))
-    | Greater ↦ λ _. none_is nu xs hs
-  ] refl
+        | Less ↦ λ _. none_is nu xs hs
+        | Equal ↦ λ eq. absurd (h (same_lists t.0 nu eq))
+        | Greater ↦ λ _. none_is nu xs hs
+      ] refl
 
   one_is : (nu now : List ℕ) (x y : ℤ) → now ≡ nu → x ≡ y → filter (is nu) ((now, x) ∷ []) ≡ (nu, y) ∷ []
   one_is nu now x y same sum_same =
       ap (λ o. cond (is_eq o) ((now, x) ∷ []) []) (subst (λ l. compare l nu ≡ Equal) (sym same) (equal_self nu))
-          ∙ ap₂ (λ a b. (a, b) ∷ []) same sum_same
+      ∙ ap₂ (λ a b. (a, b) ∷ []) same sum_same
 
   differ_at : (nu : List ℕ) (r k : ℕ) (now : List ℕ) (xs : List Reached) → 1 ≤ r → part nu r ≢ part now r →
       AllByRecursion (Reaches e i parts k (r + 1) now) xs → filter (is nu) xs ≡ []
   differ_at nu r k now xs hr ne h = none_is nu xs
       (all_mono (Reaches e i parts k (r + 1) now) (λ t. t.0 ≢ nu) xs
-          (λ t g same. ne (ap (λ l. part l r) (sym same) ∙ g.earlier r hr (omega arith))) h)
+      (λ t g same. ne (ap (λ l. part l r) (sym same) ∙ g.earlier r hr (omega arith))) h)
 
   by_rows : (xs ys : List ℕ) → ((s : ℕ) → 1 ≤ s → part xs s ≤ part ys s) → (j : ℕ) → slice_index xs j ≤ slice_index ys j
   by_rows xs ys f j = subst (λ n. slice_index xs n ≤ slice_index ys n) (back j) (f (j + 1) (omega arith))
@@ -203,7 +217,7 @@ module _ (e i : ℕ) (he : 2 ≤ e) (parts : List ℕ) (pp : IsPartition parts) 
       Move e i k parts nu → ((s : ℕ) → 1 ≤ s → part now s ≤ part nu s) → now ≡ nu
   same_end k now nu pw pn mw mn le = same_within now nu pw pn (by_rows now nu le)
       (let a : degree now ≡ degree parts + k = degree_of k now mw in
-          let b : degree nu ≡ degree parts + k = degree_of k nu mn in omega arith)
+      let b : degree nu ≡ degree parts + k = degree_of k nu mn in omega arith)
 
   complete : (n r k m : ℕ) (now : List ℕ) (d x : ℤ) (nu : List ℕ) → 1 ≤ r → r + n ≡ length parts + 2 →
       Before e i parts r k now d x → IsPartition nu → Move e i (k + m) parts nu →
@@ -241,12 +255,12 @@ module _ (e i : ℕ) (he : 2 ≤ e) (parts : List ℕ) (pp : IsPartition parts) 
       ∙ filter_append (is nu) (cond (addable_at e i parts r) chosen []) passed
       ∙ settle (row_cases e i he parts pp (k + suc m) nu r hr pn mv)
       (λ can. sound n (r + 1) (k + 1) m (grow (r - 1) now) d (x +ℤ d) (omega arith)
-          (choose e i he parts pp r k now d x hr st can))
+      (choose e i he parts pp r k now d x hr st can))
       (sound n (r + 1) k (suc m) now below x (omega arith) (pass e i he parts pp r k now d x hr st))
       (λ can grown. complete n (r + 1) (k + 1) m (grow (r - 1) now) d (x +ℤ d) nu (omega arith) (omega arith)
-          (choose e i he parts pp r k now d x hr st can) pn (subst (λ j. Move e i j parts nu) (moved k m) mv) grown)
+      (choose e i he parts pp r k now d x hr st can) pn (subst (λ j. Move e i j parts nu) (moved k m) mv) grown)
       (complete n (r + 1) k (suc m) now below x nu (omega arith) (omega arith)
-          (pass e i he parts pp r k now d x hr st) pn mv)
+      (pass e i he parts pp r k now d x hr st) pn mv)
     where
       moved : (k m : ℕ) → k + suc m ≡ k + 1 + m
       moved k m = omega arith
@@ -272,11 +286,16 @@ module _ (e i : ℕ) (he : 2 ≤ e) (parts : List ℕ) (pp : IsPartition parts) 
           (is nu) passed ≡ (nu, exponent e i parts nu) ∷ []
       settle (inl same) all_chosen all_passed if_chosen if_passed =
           ap₂ (λ a b. a ++ b)
-              (elim (addable_at e i parts r) as (λ b. addable_at e i parts r ≡ b →
-              filter (is nu) (cond b chosen []) ≡ []) [
+          (elim (addable_at e i parts r) as (λ b. addable_at e i parts r ≡ b →
+          filter (is nu) (cond b chosen []) ≡ []) [
             | true ↦ λ can. differ_at nu r (k + 1 + m) (grow (r - 1) now) chosen hr
-                (λ eq. omega (arith, grown_here e i he parts pp r k now d x hr st can, st.later r (omega arith), same,
-                eq)) (all_chosen can)
+                (λ eq. omega (
+                  arith,
+                  grown_here e i he parts pp r k now d x hr st can,
+                  st.later r (omega arith),
+                  same,
+                  eq,
+                )) (all_chosen can)
             | false ↦ λ _. refl
           ] refl) (if_passed (λ s lo hi. upto s lo (le_or_lt r s) hi))
         where
@@ -288,8 +307,8 @@ module _ (e i : ℕ) (he : 2 ≤ e) (parts : List ℕ) (pp : IsPartition parts) 
               here = omega arith
       settle (inr (more, can)) all_chosen all_passed if_chosen if_passed =
           ap₂ (λ a b. filter (is nu) (cond a chosen []) ++ b) can
-              (differ_at nu r (k + suc m) now passed hr
-              (λ eq. omega (arith, st.later r (omega arith), more, eq)) all_passed)
+          (differ_at nu r (k + suc m) now passed hr
+          (λ eq. omega (arith, st.later r (omega arith), more, eq)) all_passed)
           ∙ ap (λ l. l ++ []) (if_chosen can (λ s lo hi. upto s lo (le_or_lt r s) hi))
         where
           upto : (s : ℕ) → 1 ≤ s → (r ≤ s) ⊎ (s < r) → s < r + 1 → part nu s ≡ part (grow (r - 1) now) s
@@ -334,15 +353,15 @@ pub moves_to : (e i m : ℕ) (parts nu : List ℕ) → 2 ≤ e → IsPartition p
 unfolding moves signature
 moves_to e i m parts nu he pp pn =
     elim (is_move e i m parts nu) as (λ b. is_move e i m parts nu ≡ b →
-        filter (λ t. is_eq (compare t.0 nu)) (moves e i m parts) ≡ cond b ((nu, exponent e i parts nu) ∷ []) []) [
+    filter (λ t. is_eq (compare t.0 nu)) (moves e i m parts) ≡ cond b ((nu, exponent e i parts nu) ∷ []) []) [
       | true ↦ λ mv. complete e i he parts pp (length parts + 1) 1 0 m parts (pos 0) (pos 0) nu (omega arith)
           (omega arith) (start e i parts pp) pn
           (subst (λ j. Move e i j parts nu) (plain m) (move_facts e i m parts nu mv))
           (λ s lo hi. absurd (omega arith))
       | false ↦ λ other. none_is e i he parts pp nu (moves e i m parts)
           (all_mono (IsMoveOf e i m parts) (λ t. t.0 ≢ nu) (moves e i m parts)
-              (λ t g same. true≢false (sym g.is_one ∙ ap (is_move e i m parts) same ∙ other))
-              (all_moves e i m parts he pp))
+          (λ t g same. true≢false (sym g.is_one ∙ ap (is_move e i m parts) same ∙ other))
+          (all_moves e i m parts he pp))
     ] refl
   where
     plain : (m : ℕ) → m ≡ 0 + m

@@ -72,6 +72,9 @@ IsPartition-grow (x ∷ xs) (suc k) h r =
         one k = omega arith
     low (inr w) = omega (arith, grow_other xs k 0 (λ e. omega arith), d)
 
+pub full_rows : (xs : List ℕ) (j : ℕ) → IsPartition xs → j < length xs → 0 < slice_index xs j
+full_rows xs j h lt = h.positive j 0 lt
+
 -- the degree grows by one
 pub degree-grow : (xs : List ℕ) (k : ℕ) → k ≤ length xs → sum (grow k xs) ≡ sum xs + 1
 unfolding grow
