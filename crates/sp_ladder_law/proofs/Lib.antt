@@ -1,7 +1,9 @@
 pub mod Chains
+pub mod OneTerm
+pub mod Backward
 pub mod Reach
-pub mod Dominance
 pub mod Truncated
 pub mod Exponent
+pub mod Dominance
 pub mod LadderLaw
 pub mod Contents
