@@ -69,11 +69,8 @@ module _ (e L : ℕ) where
     where
       plain : (p : ℕ) → p ≡ p + 0
       plain p = omega arith
-  row_low r p (suc d) =
-      let a : in_row r (suc (p + d)) ≡ in_row r (p + d) + cond (nat_le L (r + (e - 1) * (p + d))) 1 0 =
-      row_suc r (p + d) in
-      let b : cond (nat_le L (r + (e - 1) * (p + d))) 1 0 ≤ 1 = at_most (nat_le L (r + (e - 1) * (p + d))) in
-      subst (λ n. in_row r n ≤ in_row r p + suc d) (moved p d) (omega (arith, a, b, row_low r p d))
+  row_low r p (suc d) = subst (λ n. in_row r n ≤ in_row r p + suc d) (moved p d)
+      (omega (arith, row_suc r (p + d), at_most (nat_le L (r + (e - 1) * (p + d))), row_low r p d))
     where
       moved : (p d : ℕ) → suc (p + d) ≡ p + suc d
       moved p d = omega arith
@@ -89,36 +86,34 @@ module _ (e L : ℕ) where
 
       plain' : (p : ℕ) → p ≡ p + 0
       plain' p = omega arith
-  row_high r p (suc d) h =
-      let m : (e - 1) * p ≤ (e - 1) * (p + d) = mul-le-mul_left (e - 1) (omega arith) in
-      let a : in_row r (suc (p + d)) ≡ in_row r (p + d) + cond (nat_le L (r + (e - 1) * (p + d))) 1 0 =
-      row_suc r (p + d) in
-      let b : ◌≡◌ {A = ℕ} (cond (nat_le L (r + (e - 1) * (p + d))) 1 0) 1 =
-      ap (λ b. cond b 1 0) (le-leb L (r + (e - 1) * (p + d)) (omega arith)) in
-      subst (λ n. in_row r n ≡ in_row r p + suc d) (moved p d) (omega (arith, a, b, row_high r p d h))
+  row_high r p (suc d) h = subst (λ n. in_row r n ≡ in_row r p + suc d) (moved p d)
+      (omega (arith, row_suc r (p + d), counted (mul-le-mul_left (e - 1) (omega arith)), row_high r p d h))
     where
       moved : (p d : ℕ) → suc (p + d) ≡ p + suc d
       moved p d = omega arith
+
+      counted : (e - 1) * p ≤ (e - 1) * (p + d) → ◌≡◌ {A = ℕ} (cond (nat_le L (r + (e - 1) * (p + d))) 1 0) 1
+      counted m = ap (λ b. cond b 1 0) (le-leb L (r + (e - 1) * (p + d)) (omega arith))
 
   -- what a row gains over another, it gains from L on
   row_exchange : (r x y : ℕ) → L ≤ r + (e - 1) * y → x + in_row r y ≤ y + in_row r x
   row_exchange r x y h = settle (le_or_lt x y)
     where
       settle : (x ≤ y) ⊎ (y < x) → x + in_row r y ≤ y + in_row r x
-      settle (inl l) =
-          let a : in_row r y ≤ in_row r x + (y - x) = subst (λ n. in_row r n ≤ in_row r x + (y - x)) (back l)
-          (row_low r x (y - x)) in
-          omega (arith, a)
+      settle (inl l) = omega (arith, low)
         where
           back : x ≤ y → x + (y - x) ≡ y
           back h = omega arith
-      settle (inr l) =
-          let a : in_row r x ≡ in_row r y + (x - y) = subst (λ n. in_row r n ≡ in_row r y + (x - y)) (back l)
-          (row_high r y (x - y) h) in
-          omega (arith, a)
+
+          low : in_row r y ≤ in_row r x + (y - x)
+          low = subst (λ n. in_row r n ≤ in_row r x + (y - x)) (back l) (row_low r x (y - x))
+      settle (inr l) = omega (arith, all)
         where
           back : y < x → y + (x - y) ≡ x
           back h = omega arith
+
+          all : in_row r x ≡ in_row r y + (x - y)
+          all = subst (λ n. in_row r n ≡ in_row r y + (x - y)) (back l) (row_high r y (x - y) h)
 
   -- ---- the rows of a partition
 

@@ -10,7 +10,7 @@ use Rattle.std.proofs.lemmas.Bool.Decides.{nat_tests}
 use Rattle.sp_defs.specs.Partition.{part, degree, IsPartition, is_regular, Dominates, partitions, from_one_to}
 use Rattle.sp_defs.specs.Partition.{IsPartitionOf}
 use Rattle.sp_defs.specs.Node.{Node, nodes}
-use Rattle.sp_defs.specs.Laurent.{one, power, plus, times, collect, add_term, sum_over, IsLaurent}
+use Rattle.sp_defs.specs.Laurent.{Laurent, one, power, plus, times, collect, add_term, sum_over, IsLaurent}
 use Rattle.sp_defs.specs.Power.{is_move, exponent, sources, divided_power}
 use Rattle.sp_defs.specs.Ladder.{Step, ladder_of, ladder_residue, on_ladder, ladders, ladders_end, steps, chains_to}
 use Rattle.sp_defs.specs.Ladder.{chain_exponent, chain_sum, ladder_vector}
@@ -18,7 +18,7 @@ use Rattle.sp_defs.specs.Statements.{LadderLaw}
 use Rattle.sp_lists.proofs.Elements.{nil_or_not}
 use Rattle.sp_algebra.proofs.Laws.{one_times, times_nought, IsLaurent-times}
 use Rattle.sp_algebra.proofs.Laws.{IsLaurent-bar_invariant, bar_invariant-one}
-use Rattle.sp_shapes.proofs.Listing.{all_partitions, each_partition, partitions_ascend}
+use Rattle.sp_shapes.proofs.Listing.{Occurs, all_partitions, each_partition, partitions_ascend}
 use Rattle.sp_ladder_law.proofs.Chains.{Reached, reached, chain_step, positive_chain_sum}
 use Rattle.sp_ladder_law.proofs.OneTerm.{one_term}
 use Rattle.sp_ladder_law.proofs.Backward.{down_from, reverse_range, reverse_kept}
@@ -141,18 +141,10 @@ module _ (e : ℕ) (he : 2 ≤ e) (mu : List ℕ) (pm : IsPartition mu) where
         chain_sum e (step_of e (on_ladder e mu) (suc n) ∷ back_steps n) (upto e he mu pm (suc n)) ≡ one
     unfolding divided_power sources
     one_step n ih =
-        chain_step e (step_of e (on_ladder e mu) (suc n)) (back_steps n) (upto e he mu pm (suc n))
-        ∙ one_term (λ before. is_move e i m before after) (IsPartitionOf (degree after - m))
-        (λ before. times (power (exponent e i before after)) (chain_sum e (back_steps n) before)) here
-        (partitions (degree after - m))
-        (partitions_ascend (degree after - m))
-        (each_partition (degree after - m) here (IsPartition-upto e he mu pm n)
-        (omega (arith, next_degree e he mu pm n)))
-        (all_partitions (degree after - m))
-        (λ x px mv ne.
-        ap (times (power (exponent e i x after))) (not_reached n x px.partition mv ne)
-        ∙ times_nought (power (exponent e i x after)))
-        (facts_move e i m here after (next_move e he mu pm n))
+        chain_step e (step_of e (on_ladder e mu) (suc n)) (back_steps n) after
+        ∙ one_term (λ before. is_move e i m before after) (IsPartitionOf (degree after - m)) term here
+        (partitions (degree after - m)) (partitions_ascend (degree after - m)) here_listed
+        (all_partitions (degree after - m)) other_terms (facts_move e i m here after (next_move e he mu pm n))
         (IsLaurent-times (power (exponent e i here after)) (chain_sum e (back_steps n) here))
         ∙ ap₂ (λ x y. times (power x) y) (zero_exponent e he mu pm reg n) ih
         ∙ one_times one one_laurent
@@ -163,27 +155,45 @@ module _ (e : ℕ) (he : 2 ≤ e) (mu : List ℕ) (pm : IsPartition mu) where
         m : ℕ
         m = on_ladder e mu (suc n)
 
+        here : List ℕ
+        here = upto e he mu pm n
+
         after : List ℕ
         after = upto e he mu pm (suc n)
 
-        here : List ℕ
-        here = upto e he mu pm n
+        term : List ℕ → Laurent
+        term before = times (power (exponent e i before after)) (chain_sum e (back_steps n) before)
+
+        here_listed : Occurs here (partitions (degree after - m))
+        here_listed = each_partition (degree after - m) here (IsPartition-upto e he mu pm n)
+            (omega (arith, next_degree e he mu pm n))
+
+        other_terms : (x : List ℕ) → IsPartitionOf (degree after - m) x → is_move e i m x after ≡ true → x ≢ here →
+            term x ≡ []
+        other_terms x px mv ne =
+            ap (times (power (exponent e i x after))) (not_reached n x px.partition mv ne)
+            ∙ times_nought (power (exponent e i x after))
 
     -- the chain to each cut
     pub chain_to_mu : (n : ℕ) → chain_sum e (back_steps n) (upto e he mu pm n) ≡ one
     unfolding back_steps back_to down_from chain_sum chains_to chain_exponent sum_over plus collect add_term
     chain_to_mu zero = ap (chain_sum e []) (cut_none e he mu pm)
-    chain_to_mu (suc n) = elim (nat_lt 0 (on_ladder e mu (suc n))) as (λ v. nat_lt 0 (on_ladder e mu (suc n)) ≡ v →
-        chain_sum e (map (step_of e (on_ladder e mu)) (cond v (suc n ∷ back_to n) (back_to n)))
-        (upto e he mu pm (suc n)) ≡ one) [
-          | true ↦ λ eq. one_step n (chain_to_mu n)
-          | false ↦ λ eq.
-              ap (chain_sum e (back_steps n))
-              (cut_same e he mu pm n
-              (let z : on_ladder e mu (suc n) ≤ 0 = ltb-false 0 (on_ladder e mu (suc n)) eq in omega arith))
-              ∙ chain_to_mu n
-        ] refl
+    chain_to_mu (suc n) = tested (nat_lt 0 (on_ladder e mu (suc n))) refl (chain_to_mu n)
+      where
+        tested : (b : Bool) → nat_lt 0 (on_ladder e mu (suc n)) ≡ b →
+            chain_sum e (back_steps n) (upto e he mu pm n) ≡ one →
+            chain_sum e (map (step_of e (on_ladder e mu)) (cond b (suc n ∷ back_to n) (back_to n)))
+            (upto e he mu pm (suc n)) ≡ one
+        tested true eq ih = one_step n ih
+        tested false eq ih = ap (chain_sum e (back_steps n)) (cut_same e he mu pm n no_node) ∙ ih
+          where
+            few : on_ladder e mu (suc n) ≤ 0
+            few = ltb-false 0 (on_ladder e mu (suc n)) eq
 
+            no_node : on_ladder e mu (suc n) ≡ 0
+            no_node = omega (arith, few)
+
+    -- mu has no node past its last ladder
     all_below_end : (r c : ℕ) → 1 ≤ r → 1 ≤ c → c ≤ part mu r → ladder_of e (r, c) ≤ ladders_end e mu
     all_below_end = at_node (λ x. ladder_of e x ≤ ladders_end e mu) mu (fold_bounds (ladder_of e) 0 (nodes mu))
 
@@ -196,10 +206,13 @@ module _ (e : ℕ) (he : 2 ≤ e) (mu : List ℕ) (pm : IsPartition mu) where
 
     -- ---- from each ladder on, the steps add no more than mu has
 
+    -- the nodes of mu on ladders from L to n
+    abbrev between_ladders : ℕ → ℕ → Node → Bool
+    between_ladders L n x = nat_le L (ladder_of e x) && nat_le (ladder_of e x) n
+
     at_most_new : (L n : ℕ) (x : Node) →
-        cond (nat_le L (ladder_of e x) && nat_le (ladder_of e x) n) 1 0
-        + cond (nat_le L (suc n)) (cond (nat_eq (ladder_of e x) (suc n)) 1 0) 0
-        ≤ cond (nat_le L (ladder_of e x) && nat_le (ladder_of e x) (suc n)) 1 0
+        cond (between_ladders L n x) 1 0 + cond (nat_le L (suc n)) (cond (nat_eq (ladder_of e x) (suc n)) 1 0) 0
+        ≤ cond (between_ladders L (suc n) x) 1 0
     at_most_new L n x = numbers L n (ladder_of e x)
       where
         numbers : (L n a : ℕ) →
@@ -209,37 +222,31 @@ module _ (e : ℕ) (he : 2 ≤ e) (mu : List ℕ) (pm : IsPartition mu) where
 
     -- what the steps up to ladder n add on ladders from L on
     sum_back : (L n : ℕ) →
-        sum_by (λ l. cond (nat_le L l) (on_ladder e mu l) 0) (back_to n)
-        ≤ count_by (λ x. nat_le L (ladder_of e x) && nat_le (ladder_of e x) n) (nodes mu)
+        sum_by (λ l. cond (nat_le L l) (on_ladder e mu l) 0) (back_to n) ≤ count_by (between_ladders L n) (nodes mu)
     unfolding back_to down_from on_ladder
     sum_back L zero = omega arith
-    sum_back L (suc n) = step (sum_back L n)
-        (pieces (nat_le L (suc n)) (λ x. nat_le L (ladder_of e x) && nat_le (ladder_of e x) n)
-        (λ x. nat_eq (ladder_of e x) (suc n)) (λ x. nat_le L (ladder_of e x) && nat_le (ladder_of e x) (suc n))
-        (nodes mu) (at_most_new L n))
+    sum_back L (suc n) = tested (nat_lt 0 (on_next (suc n))) (sum_back L n)
+        (pieces (nat_le L (suc n)) (between_ladders L n) (λ x. nat_eq (ladder_of e x) (suc n))
+        (between_ladders L (suc n)) (nodes mu) (at_most_new L n))
       where
+        on_next : ℕ → ℕ
+        on_next l = count_by (λ x. nat_eq (ladder_of e x) l) (nodes mu)
+
         f : ℕ → ℕ
-        f l = cond (nat_le L l) (count_by (λ x. nat_eq (ladder_of e x) l) (nodes mu)) 0
+        f l = cond (nat_le L l) (on_next l) 0
 
-        step : sum_by f (back_to n) ≤ count_by (λ x. nat_le L (ladder_of e x) && nat_le (ladder_of e x) n) (nodes mu)
-            → count_by (λ x. nat_le L (ladder_of e x) && nat_le (ladder_of e x) n) (nodes mu) + f (suc n)
-            ≤ count_by (λ x. nat_le L (ladder_of e x) && nat_le (ladder_of e x) (suc n)) (nodes mu)
-            → sum_by f
-            (cond (nat_lt 0 (count_by (λ x. nat_eq (ladder_of e x) (suc n)) (nodes mu))) (suc n ∷ back_to n)
-            (back_to n)) ≤ count_by (λ x. nat_le L (ladder_of e x) && nat_le (ladder_of e x) (suc n)) (nodes mu)
-        step ih p = elim (nat_lt 0 (count_by (λ x. nat_eq (ladder_of e x) (suc n)) (nodes mu))) as
-            (λ b.
-            sum_by f (cond b (suc n ∷ back_to n) (back_to n))
-            ≤ count_by (λ x. nat_le L (ladder_of e x) && nat_le (ladder_of e x) (suc n)) (nodes mu)) [
-              | true ↦ omega (arith, ih, p, sum_by-cons f (suc n) (back_to n))
-              | false ↦ omega (arith, ih, p)
-            ]
+        tested : (b : Bool) → sum_by f (back_to n) ≤ count_by (between_ladders L n) (nodes mu) →
+            count_by (between_ladders L n) (nodes mu) + f (suc n) ≤ count_by (between_ladders L (suc n)) (nodes mu) →
+            sum_by f (cond b (suc n ∷ back_to n) (back_to n)) ≤ count_by (between_ladders L (suc n)) (nodes mu)
+        tested true ih p = omega (arith, ih, p, sum_by-cons f (suc n) (back_to n))
+        tested false ih p = omega (arith, ih, p)
 
+    -- in all no more than mu has there
     sum_within : (L n : ℕ) →
         sum_by (λ l. cond (nat_le L l) (on_ladder e mu l) 0) (back_to n)
         ≤ count_by (λ x. nat_le L (ladder_of e x)) (nodes mu)
     sum_within L n = le_trans (sum_back L n)
-        (sum_by-le-sum_by (λ x. cond (nat_le L (ladder_of e x) && nat_le (ladder_of e x) n) 1 0)
+        (sum_by-le-sum_by (λ x. cond (between_ladders L n x) 1 0)
         (λ x. cond (nat_le L (ladder_of e x)) 1 0) (nodes mu)
         (λ x. part_of (nat_le L (ladder_of e x)) (nat_le (ladder_of e x) n)))
       where
@@ -260,14 +267,7 @@ module _ (e : ℕ) (he : 2 ≤ e) (mu : List ℕ) (pm : IsPartition mu) where
 
     pub all_below : (lambda : List ℕ) → IsPartition lambda → ladder_vector e mu lambda ≢ [] → Dominates mu lambda
     unfolding back_steps
-    all_below lambda pl ne =
-        dominated e mu lambda he pm reg
-        (degree_reached e (on_ladder e mu) (back_to n) mu own
-        ∙ sym (degree_reached e (on_ladder e mu) (back_to n) lambda there))
-        (λ L.
-        le_trans
-        (count_high e he (on_ladder e mu) L (suc n) (back_to n) lambda (back_down (suc n) n (omega arith)) pl
-        there) (sum_within L n))
+    all_below lambda pl ne = dominated e mu lambda he pm reg same_degree counts
       where
         n : ℕ
         n = ladders_end e mu
@@ -277,6 +277,17 @@ module _ (e : ℕ) (he : 2 ≤ e) (mu : List ℕ) (pm : IsPartition mu) where
 
         own : Reached e (map (step_of e (on_ladder e mu)) (back_to n)) mu
         own = reached e (back_steps n) mu (nonzero_back mu (λ z. one_nonzero (sym at_own ∙ z)))
+
+        same_degree : degree mu ≡ degree lambda
+        same_degree =
+            degree_reached e (on_ladder e mu) (back_to n) mu own
+            ∙ sym (degree_reached e (on_ladder e mu) (back_to n) lambda there)
+
+        counts : (L : ℕ) →
+            count_by (λ x. nat_le L (ladder_of e x)) (nodes lambda)
+            ≤ count_by (λ x. nat_le L (ladder_of e x)) (nodes mu)
+        counts L = le_trans (count_high e he (on_ladder e mu) L (suc n) (back_to n) lambda
+            (back_down (suc n) n (omega arith)) pl there) (sum_within L n)
 
 pub ladder_law : LadderLaw
 unfolding ladder_vector
