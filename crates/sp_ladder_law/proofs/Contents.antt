@@ -1,18 +1,17 @@
 -- Contents: each step adds nodes of its residue, so what is reached by the same steps has the same content.
-use Rattle.std.proofs.Common.{◌≡◌, ◌≢◌, ℕ, suc, ◌+◌, true, false, cond, nat_eq, List, [], ◌∷◌, reverse, length, refl}
+use Rattle.std.proofs.Common.{◌≡◌, ℕ, suc, ◌+◌, true, false, cond, nat_eq, List, [], ◌∷◌, reverse, length, refl}
 use Rattle.std.proofs.Common.{sym, ◌∙◌, ap, ap₂, arith, sum_by, count_by, eqb-true}
 use Rattle.std.specs.List.{AllByRecursion, list_all}
 use Rattle.std.proofs.lemmas.List.Sums.{sum_by-cons}
-use Rattle.sp_defs.specs.Partition.{degree}
 use Rattle.sp_defs.specs.Node.{Node, nodes, nodes_from, residue, content, in_diagram}
 use Rattle.sp_defs.specs.Laurent.{one}
 use Rattle.sp_defs.specs.Power.{is_move, added}
 use Rattle.sp_defs.specs.Ladder.{Step, steps, ladder_vector}
-use Rattle.sp_defs.specs.Statements.{IsLabel, SameContent, LadderContentLaw}
+use Rattle.sp_defs.specs.Statements.{LadderContentLaw}
 use Rattle.sp_lists.proofs.Elements.{and_split, all_tests}
 use Rattle.sp_shapes.proofs.Moves.{move_facts, count_added}
-use Rattle.sp_ladder_law.proofs.Chains.{Reached}
-use Rattle.sp_ladder_law.proofs.LadderLaw.{reached, ladder_law}
+use Rattle.sp_ladder_law.proofs.Chains.{Reached, reached}
+use Rattle.sp_ladder_law.proofs.LadderLaw.{ladder_law}
 
 -- all of one residue: all count, or none
 count_alike : (e i k : ℕ) (xs : List Node) → AllByRecursion (λ x. nat_eq (residue e x) k ≡ true) xs →
@@ -26,6 +25,7 @@ count_alike e i k (x ∷ xs) (h, hs) =
       | false ↦ omega arith
     ]
 
+-- the content of what is reached: for each residue the counts of its steps
 content_reached : (e i : ℕ) (backward : List Step) (last : List ℕ) → Reached e backward last →
     content e last i ≡ sum_by (λ s. cond (nat_eq s.residue i) s.count 0) backward
 unfolding Reached nodes_from is_move
@@ -45,6 +45,7 @@ content_reached e i (s ∷ earlier) last (before, pb, mv, rest) =
     swapped : (a b : ℕ) → a + b ≡ b + a
     swapped a b = omega arith
 
+-- mu itself is reached by these steps, so both have the same content
 pub ladder_content : LadderContentLaw
 unfolding ladder_vector
 ladder_content e mu h lambda ne i =

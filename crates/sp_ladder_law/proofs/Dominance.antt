@@ -1,31 +1,18 @@
 -- If from each ladder on a partition has at most as many nodes as an e-regular one of its degree, then the latter
 -- dominates it.
-use Rattle.std.proofs.Common.{◌≡◌, ℕ, zero, suc, ◌+◌, ◌-◌, ◌*◌, ◌<◌, ◌≤◌, Bool, true, false, cond, List, [], ◌∷◌, ◌++◌}
+use Rattle.std.proofs.Common.{◌≡◌, ℕ, zero, suc, ◌+◌, ◌-◌, ◌*◌, ◌<◌, ◌≤◌, Bool, true, false, cond, List, [], ◌∷◌}
 use Rattle.std.proofs.Common.{map, take, refl, sym, ◌∙◌, ap, subst, arith, count_by, sum, nat_le, slice_index, ◌⊎◌, inl}
-use Rattle.std.proofs.Common.{inr, le-leb, leb-true, mul-le-mul_left}
+use Rattle.std.proofs.Common.{inr, le-leb, mul-le-mul_left}
 use Rattle.std.specs.List.{range_with_len}
 use Rattle.std.proofs.lemmas.List.Sums.{sum_by-cons, sum_by-append}
 use Rattle.sp_defs.specs.Partition.{degree, IsPartition, Dominates, is_regular, from_one_to}
 use Rattle.sp_defs.specs.Node.{Node, nodes_from}
 use Rattle.sp_defs.specs.Ladder.{ladder_of}
-use Rattle.sp_lists.proofs.Elements.{le_or_lt, count_zero}
+use Rattle.std.proofs.lemmas.Bool.{lt-leb}
+use Rattle.std.proofs.lemmas.List.{map-append}
+use Rattle.sp_lists.proofs.Elements.{le_or_lt, count_zero, range_snoc}
 use Rattle.sp_shapes.proofs.Diagram.{nodes_all}
 use Rattle.sp_shapes.proofs.Regular.{lower_earlier}
-
-pub range_snoc : (a n : ℕ) → range_with_len a (suc n) ≡ range_with_len a n ++ ((a + n) ∷ [])
-range_snoc a zero = ap (λ x. x ∷ []) (plain a)
-  where
-    plain : (a : ℕ) → a ≡ a + 0
-    plain a = omega arith
-range_snoc a (suc n) =
-    ap (λ r. a ∷ r) (range_snoc (a + 1) n ∙ ap (λ x. range_with_len (a + 1) n ++ (x ∷ [])) (moved a n))
-  where
-    moved : (a n : ℕ) → a + 1 + n ≡ a + suc n
-    moved a n = omega arith
-
-pub map_append : {X Y : Type 0} (f : X → Y) (xs ys : List X) → map f (xs ++ ys) ≡ map f xs ++ map f ys
-map_append f [] ys = refl
-map_append f (x ∷ xs) ys = ap (λ r. f x ∷ r) (map_append f xs ys)
 
 -- the least of a function below n
 least : (f : ℕ → ℕ) (n : ℕ) → (j : ℕ) × (j < suc n) × ((i : ℕ) → i < suc n → f j ≤ f i)
@@ -50,6 +37,7 @@ least f (suc n) = step (least f n)
             last i hi (inr w) = let z : suc n ≡ i = omega arith in subst (λ k. f (suc n) ≤ f k) z (omega arith)
 
 module _ (e L : ℕ) where
+  -- nodes on ladders from L on, in the first p places of row r, and in the rows from r on
   abbrev pub high : Node → Bool
   high x = nat_le L (ladder_of e x)
 
@@ -59,10 +47,12 @@ module _ (e L : ℕ) where
   abbrev pub high_from : ℕ → List ℕ → ℕ
   high_from r parts = count_by high (nodes_from r parts)
 
+  -- ---- one row
+
   row_suc : (r p : ℕ) → in_row r (suc p) ≡ in_row r p + cond (nat_le L (r + (e - 1) * p)) 1 0
   row_suc r p =
       ap (λ xs. count_by high (map (λ c. (r, c)) xs)) (range_snoc 1 p)
-      ∙ ap (count_by high) (map_append {Y = Node} (λ c. (r, c)) (range_with_len 1 p) ((1 + p) ∷ []))
+      ∙ ap (count_by high) (map-append {B = Node} (λ c. (r, c)) (range_with_len 1 p) ((1 + p) ∷ []))
       ∙ sum_by-append (λ x. cond (high x) 1 0) (map (λ c. (r, c)) (range_with_len 1 p)) ((r, 1 + p) ∷ [])
       ∙ ap (λ n. in_row r p + n)
       (ap (λ n. 0 + cond (nat_le L (r + (e - 1) * n)) 1 0) (less p) ∙ plain (cond (nat_le L (r + (e - 1) * p)) 1 0))
@@ -73,16 +63,14 @@ module _ (e L : ℕ) where
       plain : (n : ℕ) → 0 + n ≡ n
       plain n = omega arith
 
+  -- a row gains at most d by d places more, and just d from ladder L on
   row_low : (r p d : ℕ) → in_row r (p + d) ≤ in_row r p + d
   row_low r p zero = subst (λ n. in_row r n ≤ in_row r p + 0) (plain p) (omega arith)
     where
       plain : (p : ℕ) → p ≡ p + 0
       plain p = omega arith
-  row_low r p (suc d) =
-      let a : in_row r (suc (p + d)) ≡ in_row r (p + d) + cond (nat_le L (r + (e - 1) * (p + d))) 1 0 =
-      row_suc r (p + d) in
-      let b : cond (nat_le L (r + (e - 1) * (p + d))) 1 0 ≤ 1 = at_most (nat_le L (r + (e - 1) * (p + d))) in
-      subst (λ n. in_row r n ≤ in_row r p + suc d) (moved p d) (omega (arith, a, b, row_low r p d))
+  row_low r p (suc d) = subst (λ n. in_row r n ≤ in_row r p + suc d) (moved p d)
+      (omega (arith, row_suc r (p + d), at_most (nat_le L (r + (e - 1) * (p + d))), row_low r p d))
     where
       moved : (p d : ℕ) → suc (p + d) ≡ p + suc d
       moved p d = omega arith
@@ -98,36 +86,36 @@ module _ (e L : ℕ) where
 
       plain' : (p : ℕ) → p ≡ p + 0
       plain' p = omega arith
-  row_high r p (suc d) h =
-      let m : (e - 1) * p ≤ (e - 1) * (p + d) = mul-le-mul_left (e - 1) (omega arith) in
-      let a : in_row r (suc (p + d)) ≡ in_row r (p + d) + cond (nat_le L (r + (e - 1) * (p + d))) 1 0 =
-      row_suc r (p + d) in
-      let b : ◌≡◌ {A = ℕ} (cond (nat_le L (r + (e - 1) * (p + d))) 1 0) 1 =
-      ap (λ b. cond b 1 0) (le-leb L (r + (e - 1) * (p + d)) (omega arith)) in
-      subst (λ n. in_row r n ≡ in_row r p + suc d) (moved p d) (omega (arith, a, b, row_high r p d h))
+  row_high r p (suc d) h = subst (λ n. in_row r n ≡ in_row r p + suc d) (moved p d)
+      (omega (arith, row_suc r (p + d), counted (mul-le-mul_left (e - 1) (omega arith)), row_high r p d h))
     where
       moved : (p d : ℕ) → suc (p + d) ≡ p + suc d
       moved p d = omega arith
+
+      counted : (e - 1) * p ≤ (e - 1) * (p + d) → ◌≡◌ {A = ℕ} (cond (nat_le L (r + (e - 1) * (p + d))) 1 0) 1
+      counted m = ap (λ b. cond b 1 0) (le-leb L (r + (e - 1) * (p + d)) (omega arith))
 
   -- what a row gains over another, it gains from L on
   row_exchange : (r x y : ℕ) → L ≤ r + (e - 1) * y → x + in_row r y ≤ y + in_row r x
   row_exchange r x y h = settle (le_or_lt x y)
     where
       settle : (x ≤ y) ⊎ (y < x) → x + in_row r y ≤ y + in_row r x
-      settle (inl l) =
-          let a : in_row r y ≤ in_row r x + (y - x) = subst (λ n. in_row r n ≤ in_row r x + (y - x)) (back l)
-          (row_low r x (y - x)) in
-          omega (arith, a)
+      settle (inl l) = omega (arith, low)
         where
           back : x ≤ y → x + (y - x) ≡ y
           back h = omega arith
-      settle (inr l) =
-          let a : in_row r x ≡ in_row r y + (x - y) = subst (λ n. in_row r n ≡ in_row r y + (x - y)) (back l)
-          (row_high r y (x - y) h) in
-          omega (arith, a)
+
+          low : in_row r y ≤ in_row r x + (y - x)
+          low = subst (λ n. in_row r n ≤ in_row r x + (y - x)) (back l) (row_low r x (y - x))
+      settle (inr l) = omega (arith, all)
         where
           back : y < x → y + (x - y) ≡ x
           back h = omega arith
+
+          all : in_row r x ≡ in_row r y + (x - y)
+          all = subst (λ n. in_row r n ≡ in_row r y + (x - y)) (back l) (row_high r y (x - y) h)
+
+  -- ---- the rows of a partition
 
   high-cons : (r p : ℕ) (parts : List ℕ) → high_from r (p ∷ parts) ≡ in_row r p + high_from (suc r) parts
   unfolding nodes_from
@@ -138,6 +126,9 @@ module _ (e L : ℕ) where
   unfolding nodes_from
   high-nil r = refl
 
+  -- The first k sums and the counts from L on exchange: where no place of the first k rows right of ys is before L,
+  -- what xs
+  -- has more of in these rows it has on ladders from L on.
   sums_exchange : (k r : ℕ) (xs ys : List ℕ) → ((j : ℕ) → j < k → L ≤ r + j + (e - 1) * slice_index ys j) →
       sum (take k xs) + high_from r (take k ys) ≤ sum (take k ys) + high_from r (take k xs)
   sums_exchange zero r xs ys f = omega arith
@@ -189,25 +180,21 @@ module _ (e L : ℕ) where
       next : (j : ℕ) → L ≤ r + suc j + (e - 1) * slice_index ys j → L ≤ suc r + j + (e - 1) * slice_index ys j
       next j h = omega arith
 
+  -- the first k rows have no more than all
   first_rows : (k r : ℕ) (xs : List ℕ) → high_from r (take k xs) ≤ high_from r xs
   first_rows zero r xs = omega (arith, high-nil r)
   first_rows (suc k) r [] = omega arith
   first_rows (suc k) r (x ∷ xs) = omega (arith, high-cons r x (take k xs), high-cons r x xs, first_rows k (suc r) xs)
 
+  -- and no fewer, where the other rows have nothing from L on
   no_further : (k r : ℕ) (ys : List ℕ) →
       ((j c : ℕ) → k ≤ j → 1 ≤ c → c ≤ slice_index ys j → r + j + (e - 1) * (c - 1) < L) →
       high_from r ys ≤ high_from r (take k ys)
   no_further zero r ys f =
       let z : high_from r ys ≡ 0 = count_zero high (nodes_from r ys)
       (nodes_all (λ x. high x ≡ false) r ys
-      (λ j c lo hi. not_high (r + j + (e - 1) * (c - 1)) (f j c (omega arith) lo hi))) in
+      (λ j c lo hi. lt-leb L (r + j + (e - 1) * (c - 1)) (f j c (omega arith) lo hi))) in
       omega (arith, z)
-    where
-      not_high : (n : ℕ) → n < L → nat_le L n ≡ false
-      not_high n h = elim (nat_le L n) as (λ b. nat_le L n ≡ b → b ≡ false) [
-        | true ↦ λ e'. absurd (let k : L ≤ n = leb-true L n e' in omega arith)
-        | false ↦ λ _. refl
-      ] refl
   no_further (suc k) r [] f = omega arith
   no_further (suc k) r (y ∷ ys) f =
       omega (
@@ -220,6 +207,9 @@ module _ (e L : ℕ) where
       next : (j c : ℕ) → r + suc j + (e - 1) * (c - 1) < L → suc r + j + (e - 1) * (c - 1) < L
       next j c h = omega arith
 
+-- For a row number k take the least ladder of the first places right of mu in the rows up to k: from it on, mu has no
+-- node
+-- below row k, so its counts bound those of lambda's first rows, and the sums follow.
 pub dominated : (e : ℕ) (mu lambda : List ℕ) → 2 ≤ e → IsPartition mu → is_regular e mu ≡ true →
     degree mu ≡ degree lambda → ((L : ℕ) → high_from e L 1 lambda ≤ high_from e L 1 mu) → Dominates mu lambda
 dominated e mu lambda he pm reg deg counts = record { one_degree = deg; sums = λ k. at k }

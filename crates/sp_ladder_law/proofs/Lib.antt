@@ -1,8 +1,10 @@
 pub mod Chains
+pub mod OneTerm
+pub mod Backward
 pub mod Reach
-pub mod Dominance
 pub mod Truncated
 pub mod Exponent
+pub mod Dominance
 pub mod LadderLaw
 pub mod Contents
 pub mod Weights

@@ -1,9 +1,9 @@
 -- What is reached by steps of descending ladders: no node has a later ladder than the last step, and from any ladder on
 -- there are not more nodes than the steps add.
-use Rattle.std.proofs.Common.{◌≡◌, ℕ, ◌+◌, ◌-◌, ◌*◌, ◌<◌, ◌≤◌, Bool, true, false, cond, List, [], ◌∷◌, map, refl, sym}
+use Rattle.std.proofs.Common.{◌≡◌, ℕ, ◌+◌, ◌-◌, ◌*◌, ◌<◌, ◌≤◌, Bool, false, cond, List, [], ◌∷◌, map, sym}
 use Rattle.std.proofs.Common.{◌∙◌, ap, subst, arith, count_by, sum_by, nat_le, slice_index, ◌⊎◌, inl, inr, le-leb}
-use Rattle.std.proofs.Common.{leb-true}
 use Rattle.std.proofs.lemmas.List.Sums.{sum_by-cons, count_by-le-length}
+use Rattle.std.proofs.lemmas.Bool.{lt-leb}
 use Rattle.sp_defs.specs.Partition.{part, IsPartition}
 use Rattle.sp_defs.specs.Node.{Node, nodes, nodes_from, residue}
 use Rattle.sp_defs.specs.Power.{added}
@@ -14,6 +14,7 @@ use Rattle.sp_shapes.proofs.Residues.{residue_ladder, right_differs, below_diffe
 use Rattle.sp_ladder_law.proofs.Chains.{Reached}
 use Rattle.sp_shapes.proofs.Moves.{Move, move_facts, count_added}
 
+-- the step of ladder l, with m l nodes
 abbrev pub step_of : ℕ → (ℕ → ℕ) → ℕ → Step
 step_of e m l = record { residue = ladder_residue e l; count = m l }
 
@@ -22,10 +23,12 @@ abbrev pub Down : ℕ → List ℕ → Type 0
 Down b [] = Unit {0}
 Down b (l ∷ ls) = (l < b) × (1 ≤ l) × Down l ls
 
+-- the first, and so the greatest, of them
 abbrev pub top : List ℕ → ℕ
 top [] = 0
 top (l ∷ ls) = l
 
+-- no node stands on a later ladder
 abbrev pub Low : ℕ → ℕ → List ℕ → Type 0
 Low e bound parts = (r c : ℕ) → 1 ≤ r → 1 ≤ c → c ≤ part parts r → ladder_of e (r, c) ≤ bound
 
@@ -33,6 +36,7 @@ top_below : (l : ℕ) (ls : List ℕ) → 1 ≤ l → Down l ls → top ls < l
 top_below l [] h d = h
 top_below l (k ∷ ls) h d = d.0
 
+-- one place further right is e - 1 ladders later
 pub left_ladder : (e r b : ℕ) → ladder_of e (r, b + 2) ≡ ladder_of e (r, b + 1) + (e - 1)
 left_ladder e r b =
     ap (λ n. r + (e - 1) * n) (less b) ∙ sides (e - 1) r b ∙ ap (λ n. r + (e - 1) * n + (e - 1)) (sym (less' b))
@@ -47,7 +51,10 @@ left_ladder e r b =
     sides d r b = omega arith
 
 module _ (e : ℕ) (he : 2 ≤ e) where
-  -- a node that the last step added
+  -- ---- no node has a later ladder than the last step
+
+  -- A node that the last step added: its left neighbour, or in the first column its upper one, was there before, since
+  -- neighbours have other residues. So its ladder is less than e past an earlier one, and by its residue at most l.
   new_low : (l below : ℕ) (before after : List ℕ) (m : ℕ) → below < l → IsPartition after →
       Move e (ladder_residue e l) m before after → Low e below before → (r c : ℕ) → 1 ≤ r → 1 ≤ c → c ≤ part after r →
       part before r < c → ladder_of e (r, c) ≤ l
@@ -136,10 +143,12 @@ module _ (e : ℕ) (he : 2 ≤ e) where
       settle (inr out') low = new_low l (top ls) before last (m l) (top_below l ls l1 d) pl
           (move_facts e (ladder_residue e l) (m l) before last mv) low r c hr hc w out'
 
-  -- how many nodes stand on ladders from L on
+  -- ---- how many nodes stand on ladders from L on
+
   abbrev pub high : ℕ → Node → Bool
   high L x = nat_le L (ladder_of e x)
 
+  -- no more than the steps of these ladders add
   pub count_high : (m : ℕ → ℕ) (L b : ℕ) (ls : List ℕ) (last : List ℕ) → Down b ls → IsPartition last →
       Reached e (map (step_of e m) ls) last →
       count_by (high L) (nodes last) ≤ sum_by (λ l. cond (nat_le L l) (m l) 0) ls
@@ -173,13 +182,9 @@ module _ (e : ℕ) (he : 2 ≤ e) where
           )
       settle (inr out') ih =
           let z : count_by (high L) (nodes last) ≡ 0 = count_zero (high L) (nodes last)
-          (all_nodes (λ x. high L x ≡ false) last (λ r c hr hc w. not_high r c (low r c hr hc w))) in
+          (all_nodes (λ x. high L x ≡ false) last
+          (λ r c hr hc w. lt-leb L (ladder_of e (r, c)) (high_past r c (low r c hr hc w)))) in
           omega (arith, z)
         where
-          not_high : (r c : ℕ) → ladder_of e (r, c) ≤ l → high L (r, c) ≡ false
-          not_high r c h =
-              elim (nat_le L (ladder_of e (r, c))) as (λ b. nat_le L (ladder_of e (r, c)) ≡ b → b ≡ false) [
-                | true ↦ λ e'.
-                    absurd (let k : L ≤ ladder_of e (r, c) = leb-true L (ladder_of e (r, c)) e' in omega arith)
-                | false ↦ λ _. refl
-              ] refl
+          high_past : (r c : ℕ) → ladder_of e (r, c) ≤ l → ladder_of e (r, c) < L
+          high_past r c h = omega arith

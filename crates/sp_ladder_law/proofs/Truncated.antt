@@ -1,4 +1,5 @@
--- The nodes of a partition on the ladders up to a number, as a partition.
+-- The nodes of a partition on the ladders up to a number, as a partition: row by row, that these cuts grow by the nodes
+-- of the next ladder, and that a partition with as many nodes within a cut is the cut.
 use Rattle.std.proofs.Common.{◌≡◌, ℕ, zero, suc, ◌+◌, ◌-◌, ◌*◌, ◌/◌, ◌<◌, ◌≤◌, min, true, false, cond, not, ◌&&◌}
 use Rattle.std.proofs.Common.{nat_le, nat_eq, List, [], ◌∷◌, filter, length, refl, sym, ◌∙◌, ap, ap₂, subst, arith, sum}
 use Rattle.std.proofs.Common.{slice_index, ◌⊎◌, inl, inr, le-leb, leb-true, eq-eqb, ne_eqb, le-div_iff_mul-le}
@@ -9,16 +10,19 @@ use Rattle.sp_defs.specs.Node.{in_diagram, nodes}
 use Rattle.sp_defs.specs.Power.{added}
 use Rattle.sp_defs.specs.Ladder.{ladder_of, ladder_residue, on_ladder}
 use Rattle.sp_lists.proofs.Elements.{le_or_lt, filter_alike, filter_twice}
-use Rattle.sp_shapes.proofs.Diagram.{IsPartition-tail, IsPartition-head, in_node, node_in, all_nodes, keep_filter}
+use Rattle.sp_shapes.proofs.Diagram.{IsPartition-tail, IsPartition-head, in_node, all_nodes, keep_filter}
 use Rattle.sp_shapes.proofs.Diagram.{same_rows}
 use Rattle.sp_shapes.proofs.Listing.{IsPartition-nil, IsPartition-cons}
-use Rattle.sp_shapes.proofs.Moves.{Move, degree_added}
+use Rattle.std.proofs.lemmas.Bool.{lt-leb}
+use Rattle.sp_shapes.proofs.Moves.{Move, degree_added, out_node}
 use Rattle.sp_shapes.proofs.Residues.{residue_ladder}
 
+-- the rows `parts`, from row r on, up to ladder l
 unfoldable pub cut : ℕ → ℕ → ℕ → List ℕ → List ℕ
 cut e l r [] = []
 cut e l r (p ∷ parts) = cond (nat_le r l) (min p ((l - r) / (e - 1) + 1) ∷ cut e l (suc r) parts) []
 
+-- ladder l ends in column (l - r) / f + 1 of row r, for f = e - 1
 fits_row : (f l r c : ℕ) → 0 < f → r ≤ l → 1 ≤ c → r + f * (c - 1) ≤ l → c ≤ (l - r) / f + 1
 fits_row f l r c hf hr hc h = let q : c - 1 ≤ (l - r) / f = (le-div_iff_mul-le hf).1 (omega arith) in omega arith
 
@@ -26,6 +30,7 @@ row_fits : (f l r c : ℕ) → 0 < f → r ≤ l → 1 ≤ c → c ≤ (l - r) /
 row_fits f l r c hf hr hc h = let q : (c - 1) * f ≤ l - r = (le-div_iff_mul-le hf).0 (omega arith) in omega arith
 
 module _ (e : ℕ) (he : 2 ≤ e) where
+  -- what is in a cut: the nodes of the partition on the ladders up to l
   pub cut_in : (l r : ℕ) (parts : List ℕ) (k c : ℕ) → 1 ≤ c → c ≤ slice_index parts k → r + k + (e - 1) * (c - 1) ≤ l →
       c ≤ slice_index (cut e l r parts) k
   unfolding cut
@@ -134,23 +139,19 @@ module _ (e : ℕ) (he : 2 ≤ e) where
         back : (k : ℕ) → k ≡ suc k - 1
         back k = omega arith
 
+    -- two tests of an order that agree
     same_test : (a b x y : ℕ) → (a ≤ b → x ≤ y) → (x ≤ y → a ≤ b) → nat_le a b ≡ nat_le x y
     same_test a b x y f g = settle (le_or_lt a b)
       where
-        no : (m n : ℕ) → n < m → nat_le m n ≡ false
-        no m n h = elim (nat_le m n) as (λ v. nat_le m n ≡ v → v ≡ false) [
-          | true ↦ λ eq. absurd (let w : m ≤ n = leb-true m n eq in omega arith)
-          | false ↦ λ _. refl
-        ] refl
-
         settle : (a ≤ b) ⊎ (b < a) → nat_le a b ≡ nat_le x y
         settle (inl h) = le-leb a b h ∙ sym (le-leb x y (f h))
-        settle (inr h) = no a b h ∙ sym (again (le_or_lt x y))
+        settle (inr h) = lt-leb a b h ∙ sym (again (le_or_lt x y))
           where
             again : (x ≤ y) ⊎ (y < x) → nat_le x y ≡ false
             again (inl w) = absurd (let v : a ≤ b = g w in omega arith)
-            again (inr w) = no x y w
+            again (inr w) = lt-leb x y w
 
+    -- the list of the cut's nodes
     nodes_upto : (l : ℕ) → filter (λ x. nat_le (ladder_of e x) l) (nodes mu) ≡ nodes (upto l)
     nodes_upto l = keep_filter (λ x. nat_le (ladder_of e x) l) 1 (upto l) mu
         (λ k c lo hi. same_test (1 + k + (e - 1) * (c - 1)) l c (slice_index (upto l) k) (cut_in l 1 mu k c lo hi)
@@ -166,17 +167,12 @@ module _ (e : ℕ) (he : 2 ≤ e) where
         L : ℕ
         L = ladder_of e (r, c)
 
-        not_le : suc n < L → nat_le L (suc n) ≡ false
-        not_le h = elim (nat_le L (suc n)) as (λ v. nat_le L (suc n) ≡ v → v ≡ false) [
-          | true ↦ λ eq. absurd (let k : L ≤ suc n = leb-true L (suc n) eq in omega arith)
-          | false ↦ λ _. refl
-        ] refl
-
         not_in : L ≡ suc n → in_diagram (upto n) (r, c) ≡ false
-        not_in h = elim (in_diagram (upto n) (r, c)) as (λ v. in_diagram (upto n) (r, c) ≡ v → v ≡ false) [
-          | true ↦ λ eq. absurd (let q = upto_out n r c hr hc (node_in (upto n) r c eq).within in omega (arith, q.1, h))
-          | false ↦ λ _. refl
-        ] refl
+        not_in h = out_node (upto n) r c hr hc (outside (le_or_lt c (part (upto n) r)))
+          where
+            outside : (c ≤ part (upto n) r) ⊎ (part (upto n) r < c) → part (upto n) r < c
+            outside (inl v) = absurd (let q = upto_out n r c hr hc v in omega (arith, q.1, h))
+            outside (inr v) = v
 
         settle : (L ≤ n) ⊎ (n < L) → (L ≤ suc n) ⊎ (suc n < L) →
             (nat_le L (suc n) && not (in_diagram (upto n) (r, c))) ≡ nat_eq L (suc n)
@@ -188,8 +184,10 @@ module _ (e : ℕ) (he : 2 ≤ e) where
             let is : L ≡ suc n = omega arith in
             ap₂ (λ a b. a && not b) (le-leb L (suc n) k) (not_in is) ∙ sym (eq-eqb L (suc n) is)
         settle (inr h) (inr k) =
-            ap (λ a. a && not (in_diagram (upto n) (r, c))) (not_le k) ∙ sym (ne_eqb L (suc n) (λ eq. omega arith))
+            ap (λ a. a && not (in_diagram (upto n) (r, c))) (lt-leb L (suc n) k)
+            ∙ sym (ne_eqb L (suc n) (λ eq. omega arith))
 
+    -- as many as mu has on that ladder
     pub count_next : (n : ℕ) → length (added (upto n) (upto (suc n))) ≡ on_ladder e mu (suc n)
     unfolding on_ladder
     count_next n =
@@ -212,6 +210,8 @@ module _ (e : ℕ) (he : 2 ≤ e) where
             ladder_of e (r, c) ≡ suc n
         settle a b (inl h) = absurd (let k : c ≤ part (upto n) r = upto_in n r c hr hc a h in omega arith)
         settle a b (inr h) = omega arith
+
+    -- ---- the step of the next ladder leads from one cut to the next
 
     pub next_move : (n : ℕ) → Move e (ladder_residue e (suc n)) (on_ladder e mu (suc n)) (upto n) (upto (suc n))
     next_move n = record {
@@ -252,6 +252,8 @@ module _ (e : ℕ) (he : 2 ≤ e) where
             slice_index (y ∷ ys) k ≤ slice_index (x ∷ xs) k
         step zero more = omega (arith, first, rest, h, sum_by-cons (λ x. x) x xs, sum_by-cons (λ x. x) y ys)
         step (suc k) more = more (omega (arith, first, h, sum_by-cons (λ x. x) x xs, sum_by-cons (λ x. x) y ys)) k
+
+    -- ---- a partition with as many nodes within a cut is the cut
 
     pub same_cut : (n : ℕ) (kappa : List ℕ) → IsPartition kappa →
         ((k : ℕ) → slice_index kappa k ≤ slice_index (upto n) k) → degree kappa ≡ degree (upto n) → kappa ≡ upto n
