@@ -4,3 +4,5 @@ pub mod Canonical
 pub mod Laws
 pub mod Sums
 pub mod Positive
+pub mod Sizes
+pub mod Places
