@@ -4,3 +4,4 @@ pub mod Listing
 pub mod Moves
 pub mod Residues
 pub mod Regular
+pub mod Degrees
