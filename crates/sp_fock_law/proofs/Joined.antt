@@ -177,12 +177,7 @@ at_bounded f limit xs v w h =
 pub weight_within : (n limit : ℕ) (a : Laurent) (es fs : Entries) → IsVector n es → IsVector n fs
     → (addition_weight n (vector_of es) a (vector_of fs) ≤ limit) ↔ AllByRecursion
     (λ j. size j.first + size a * size j.second ≤ limit) (joined es fs)
-weight_within n limit a es fs he hf = (
-  (λ h. subst Within (sym walk)
-      (at_bounded f limit xs v w (map_all (λ x. x ≤ limit) (λ x. f (v x) (w x)) xs ((greatest_within limit weights).0 h)))),
-  (λ h. (greatest_within limit weights).1
-      (all_map (λ x. x ≤ limit) (λ x. f (v x) (w x)) xs (bounded_at f limit (omega arith) xs v w (subst Within walk h)))),
-)
+weight_within n limit a es fs he hf = (along, everywhere)
   where
     f : Laurent → Laurent → ℕ
     f p q = size p + size a * size q
@@ -204,3 +199,13 @@ weight_within n limit a es fs he hf = (
 
     walk : joined es fs ≡ joints_at xs v w
     walk = joined-partitions n es fs he hf
+
+    along : addition_weight n v a w ≤ limit → Within (joined es fs)
+    along h =
+        let all = map_all (λ x. x ≤ limit) (λ x. f (v x) (w x)) xs ((greatest_within limit weights).0 h) in
+        subst Within (sym walk) (at_bounded f limit xs v w all)
+
+    everywhere : Within (joined es fs) → addition_weight n v a w ≤ limit
+    everywhere h =
+        let all = bounded_at f limit (omega arith) xs v w (subst Within walk h) in
+        (greatest_within limit weights).1 (all_map (λ x. x ≤ limit) (λ x. f (v x) (w x)) xs all)
