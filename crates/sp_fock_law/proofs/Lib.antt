@@ -1,3 +1,4 @@
 pub mod Vectors
 pub mod Joined
 pub mod Places
+pub mod Single

@@ -1,0 +1,13 @@
+-- What is true of every vector that the code holds.
+use Rattle.std.specs.Prelude.{ℕ}
+use Rattle.std.specs.List.{AllByRecursion}
+use Rattle.sp_defs.specs.Power.{Entries, IsVector, FockVector}
+use Rattle.sp_partition.specs.Held.{IsHeld as IsHeldPartition}
+use Rattle.sp_laurent.specs.Held.{IsHeld as IsHeldPolynomial}
+
+abbrev pub held_as : ℕ → Entries → FockVector
+held_as n es = record { degree = n; entries = es }
+
+pub record IsHeld (v : FockVector) : Type 0 where
+  pub vector : IsVector v.degree v.entries
+  pub pairs : AllByRecursion (λ t. IsHeldPartition t.0 × IsHeldPolynomial t.1) v.entries
