@@ -1,9 +1,10 @@
 // A vector is kept as the ascending list of its partitions and polynomials.
-ghost use Rattle.std.specs.Prelude.{◌≡◌, ◌≢◌, [], IfOk, MatchOption};
+ghost use Rattle.std.specs.Prelude.{◌≡◌, ◌≢◌, [], reverse, IfOk, MatchOption};
 ghost use Rattle.sp_defs.specs.Partition.{degree as degree_of};
 ghost use Rattle.sp_defs.specs.Power.{fock_vector, unit, vector_of};
 ghost use Rattle.sp_fock.specs.Held.{IsHeld};
 
+use crate::Terms;
 use sp_laurent::Laurent;
 use sp_partition::Partition;
 use std::alloc::{AllocError, Global};
@@ -72,6 +73,15 @@ impl Vector {
         match self.pairs.binary_search_by(|pair| pair.0.cmp(p)) {
             Ok(place) => Some(&self.pairs[place].1),
             Err(_) => None,
+        }
+    }
+
+    /// The terms, from the greatest partition to the least.
+    pub fn terms(&self) -> Terms<'_>
+        ensures { result ≡ reverse self.now.entries }
+    {
+        Terms {
+            pairs: &self.pairs,
         }
     }
 }
