@@ -1,6 +1,7 @@
 //! Vectors of the Fock space: finite maps from the partitions of one degree to Laurent polynomials.
 #![tactic(auto)]
 
+mod joined;
 mod terms;
 mod vector;
 

@@ -80,8 +80,6 @@ impl Vector {
     pub fn terms(&self) -> Terms<'_>
         ensures { result ≡ reverse self.now.entries }
     {
-        Terms {
-            pairs: &self.pairs,
-        }
+        Terms { pairs: &self.pairs }
     }
 }

@@ -23,10 +23,14 @@ use Rattle.std.proofs.Common.{
   ap₂,
   subst,
   arith,
+  Ordering,
+  Less,
+  Equal,
+  Greater,
 }
 use Rattle.std.specs.List.{AllByRecursion}
 use Rattle.std.specs.Ordering.{match_ordering}
-use Rattle.sp_defs.specs.Partition.{partitions, Ascending, IsEarlier}
+use Rattle.sp_defs.specs.Partition.{compare, partitions, Ascending, IsEarlier}
 use Rattle.sp_defs.specs.Laurent.{Laurent, size}
 use Rattle.sp_defs.specs.Power.{Vector, Entries, vector_of, entries, IsVector}
 use Rattle.sp_lists.proofs.Elements.{all_filter, all_map, map_all}

@@ -2,3 +2,4 @@ pub mod Vectors
 pub mod Joined
 pub mod Places
 pub mod Single
+pub mod Steps

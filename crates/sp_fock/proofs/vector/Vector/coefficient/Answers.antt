@@ -14,8 +14,7 @@ returns-in-Ok c =
     let vector : IsVector c.self.inside.degree es = subst (IsVector c.self.inside.degree) (sym c.deref.ensures.value) c.self.invariant.vector in
     let found : IsBinarySearchResult (λ t. order t.0 p) es (Ok c.in-Ok.place) = c.in-Ok.ensures.position (λ t. order t.0 p) (always_returns_same _ _ _ (λ a r g called. search rules)) in
     let value : vector_of es p ≡ (get_or es c.in-Ok.place c.index.result.now).1 = found_in _ es vector p (Ok c.in-Ok.place) c.in-Ok.ensures.bound found c.index.result.now in
-    let here : c.index.result.now.1 ≡ (get_or es c.in-Ok.place c.index.result.now).1 = ap (λ t. t.1) (c.index.ensures ∙ ap (λ xs. get_or xs c.in-Ok.place c.index.result.now) (sym c.deref.ensures.value)) in
-    (
+    let here : c.index.result.now.1 ≡ (get_or es c.in-Ok.place c.index.result.now).1 = ap (λ t. t.1) (c.index.ensures ∙ ap (λ xs. get_or xs c.in-Ok.place c.index.result.now) (sym c.deref.ensures.value)) in (
       here ∙ sym value ∙ ap (λ xs. vector_of xs p) c.deref.ensures.value ∙ ap (λ v. vector_of v.entries p) c.self.view_is,
       λ e. nonzero_at _ es vector c.in-Ok.place c.index.result.now c.in-Ok.ensures.bound (sym here ∙ e),
     )
