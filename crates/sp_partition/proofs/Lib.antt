@@ -1,1 +1,5 @@
 pub mod Falling
+pub mod Holding
+pub mod Growing
+pub mod Shrinking
+pub mod Regularity

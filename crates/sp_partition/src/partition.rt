@@ -1,6 +1,8 @@
 // A partition is a fixed array of parts, seen as its list.
-ghost use Rattle.std.specs.Prelude.{◌≡◌, ◌↔◌, ◌<◌, ◌≤◌, [], IfOk, IsTrue, SomeIff, length, sum};
-ghost use Rattle.sp_defs.specs.Partition.{degree as degree_of, IsPartition};
+ghost use Rattle.std.specs.Prelude.{◌≡◌, ◌≢◌, ◌↔◌, ℕ, ◌+◌, ◌-◌, ◌<◌, ◌≤◌, [], IfOk, IfSome, IsTrue, SomeIff, length, slice_index, sum};
+ghost use Rattle.sp_defs.specs.Partition.{degree as degree_of, part as part_of, IsPartition, is_regular as regular};
+ghost use Rattle.sp_defs.specs.Node.{is_addable, is_removable};
+ghost use Rattle.sp_defs.specs.Signature.{grow, shrink};
 ghost use Rattle.sp_partition.specs.Held.{IsHeld};
 ghost use Rattle.sp_partition.specs.Padded.{padded as padded_parts};
 
@@ -99,6 +101,71 @@ impl Partition {
     {
         &self.parts[..self.count as usize]
     }
+
+    /// Whether no `e` of the parts are equal.
+    pub fn is_regular(&self, e: u8) -> bool
+        requires { 2 ≤ e }
+        ensures { result ≡ regular e self.now }
+    {
+        differ(self.parts(), e as usize - 1)
+    }
+
+    /// The partition with one node more in this row, counted from 1.
+    ///
+    /// None where the row has no addable node, or the degree is `CAPACITY`.
+    pub fn add_node(&self, row: u8) -> Option<Partition>
+        ensures node { SomeIff result (IsTrue (is_addable self.now (row, part_of self.now row + 1)) × (degree_of self.now < CAPACITY)) (grow (row - 1) self.now) }
+        ensures held { IfSome result IsHeld }
+    {
+        if self.degree == CAPACITY || !self.can_grow(row) {
+            return None;
+        }
+        let mut grown = *self;
+        grown.parts[row as usize - 1] += 1;
+        grown.degree += 1;
+        grown.count = grown.count.max(row);
+        Some(grown)
+    }
+
+    /// The partition with one node less in this row, counted from 1. None where the row has no removable node.
+    pub fn remove_node(&self, row: u8) -> Option<Partition>
+        ensures node { SomeIff result (IsTrue (is_removable self.now (row, part_of self.now row))) (shrink (row - 1) self.now) }
+        ensures held { IfSome result IsHeld }
+    {
+        if !self.can_shrink(row) {
+            return None;
+        }
+        let place = row as usize - 1;
+        let mut shrunk = *self;
+        shrunk.parts[place] -= 1;
+        shrunk.degree -= 1;
+        if shrunk.parts[place] == 0 {
+            shrunk.count -= 1;
+        }
+        Some(shrunk)
+    }
+
+    // The part in this row, counted from 1, which is 0 below the last.
+    fn part(&self, row: u8) -> u8
+        requires { 0 < row }
+        ensures { result ≡ part_of self.now row }
+    {
+        self.parts().get(row as usize - 1).copied().unwrap_or(0)
+    }
+
+    // Whether the row above is longer.
+    fn can_grow(&self, row: u8) -> bool
+        ensures { result ≡ is_addable self.now (row, part_of self.now row + 1) }
+    {
+        row == 1 || row > 1 && self.part(row - 1) > self.part(row)
+    }
+
+    // Whether the row below is shorter.
+    fn can_shrink(&self, row: u8) -> bool
+        ensures { result ≡ is_removable self.now (row, part_of self.now row) }
+    {
+        0 < row && row <= self.count && self.part(row) > self.part(row + 1)
+    }
 }
 
 // Whether these are the parts of a partition.
@@ -137,4 +204,14 @@ fn padded(parts: &[u8]) -> [u8; 32]
     let mut array = [0; 32];
     array[..parts.len()].copy_from_slice(parts);
     array
+}
+
+// Whether no two parts that stand so many places apart are equal.
+fn differ(parts: &[u8], gap: usize) -> bool
+    ensures { IsTrue result ↔ ((k : ℕ) → k + gap < length parts.now → slice_index parts.now k ≢ slice_index parts.now (k + gap)) }
+{
+    parts
+        .iter()
+        .zip(parts.iter().skip(gap))
+        .all(|(upper, lower)| upper != lower)
 }
