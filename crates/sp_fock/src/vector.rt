@@ -1,10 +1,17 @@
 // A vector is kept as the ascending list of its partitions and polynomials.
-ghost use Rattle.std.specs.Prelude.{◌≡◌, ◌≢◌, [], reverse, IfOk, MatchOption};
+ghost use Rattle.std.specs.Prelude.{◌≡◌, ◌≢◌, ◌^◌, ◌<◌, ◌≤◌, ◌↔◌, [], reverse, Err, IsTrue, IfOk, OnOk, OnErr, MatchOption};
+ghost use Rattle.std.specs.List.{AllByRecursion};
 ghost use Rattle.sp_defs.specs.Partition.{degree as degree_of};
 ghost use Rattle.sp_defs.specs.Power.{fock_vector, unit, vector_of};
+ghost use Rattle.sp_fock_law.specs.Joined.{plus_scaled, addition_weight};
+ghost use Rattle.sp_laurent.specs.Held.{power_limit};
+ghost use Rattle.sp_fock.specs.Shim.{ProductWithin};
 ghost use Rattle.sp_fock.specs.Held.{IsHeld};
 
-use crate::Terms;
+use crate::joined::all_fit;
+use crate::sums::sum_of;
+use crate::{FockFault, Terms};
+use crate::shim;
 use sp_laurent::Laurent;
 use sp_partition::Partition;
 use std::alloc::{AllocError, Global};
@@ -81,5 +88,60 @@ impl Vector {
         ensures { result ≡ reverse self.now.entries }
     {
         Terms { pairs: &self.pairs }
+    }
+
+    /// A copy.
+    pub fn copy(&self, alloc: Global) -> Result<Vector, AllocError>
+        ensures { IfOk result (λ copy. copy ≡ self.now) }
+    {
+        let mut pairs = Vec::new(alloc);
+        for pair in &self.pairs {
+            pairs.push((pair.0, shim::copy(&pair.1, alloc)?))?;
+        }
+        Ok(Vector {
+            degree: self.degree,
+            pairs,
+        })
+    }
+
+    /// Adds `a` times `w`.
+    ///
+    /// `TooLarge` exactly where, at some partition, the size here and the product of the sizes of `a` and there pass
+    /// the limit together. After a refusal the vector is as before.
+    pub fn add_scaled(&mut self, alloc: Global, a: &Laurent, w: &Vector, limit: u128) -> Result<(), FockFault>
+        requires one_degree { self.old.degree ≡ w.now.degree }
+        requires small { limit < 2 ^ 127 }
+        requires within { AllByRecursion (λ t. ProductWithin power_limit a.now t.1) w.now.entries }
+        ensures ok { OnOk result (self.new ≡ fock_vector self.old.degree (plus_scaled (vector_of self.old.entries) a.now (vector_of w.now.entries))) }
+        ensures too_large { (result ≡ Err FockFault.TooLarge) ↔ (limit < addition_weight self.old.degree (vector_of self.old.entries) a.now (vector_of w.now.entries)) }
+        ensures kept { OnErr result (self.new ≡ self.old) }
+    {
+        if !self.sum_fits(a, w, limit) {
+            return Err(FockFault::TooLarge);
+        }
+        *self = self.sum(alloc, a, w, limit)?;
+        Ok(())
+    }
+
+    fn sum_fits(&self, a: &Laurent, w: &Vector, limit: u128) -> bool
+        requires { self.now.degree ≡ w.now.degree }
+        ensures { IsTrue result ↔ (addition_weight self.now.degree (vector_of self.now.entries) a.now (vector_of w.now.entries) ≤ limit) }
+    {
+        all_fit(&self.pairs, a.size(), &w.pairs, limit)
+    }
+
+    // This and `a` times `w`.
+    fn sum(&self, alloc: Global, a: &Laurent, w: &Vector, limit: u128) -> Result<Vector, FockFault>
+        requires one_degree { self.now.degree ≡ w.now.degree }
+        requires small { limit < 2 ^ 127 }
+        requires within { AllByRecursion (λ t. ProductWithin power_limit a.now t.1) w.now.entries }
+        requires fits { addition_weight self.now.degree (vector_of self.now.entries) a.now (vector_of w.now.entries) ≤ limit }
+        ensures sum { IfOk result (λ sum. sum ≡ fock_vector self.now.degree (plus_scaled (vector_of self.now.entries) a.now (vector_of w.now.entries))) }
+        ensures fits { result ≢ Err FockFault.TooLarge }
+    {
+        Ok(Vector {
+            degree: self.degree,
+            pairs: sum_of(alloc, &self.pairs, a, &w.pairs, limit)?,
+        })
     }
 }

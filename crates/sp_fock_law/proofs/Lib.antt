@@ -3,3 +3,4 @@ pub mod Joined
 pub mod Places
 pub mod Single
 pub mod Steps
+pub mod JoinedAll
