@@ -6,6 +6,7 @@ mod joined;
 mod shim;
 mod sums;
 mod terms;
+mod text;
 mod vector;
 
 pub use fault::FockFault;

@@ -1,6 +1,7 @@
 // What sp_laurent will have.
-ghost use Rattle.std.specs.Prelude.{◌≡◌, ◌+◌, ◌*◌, ◌^◌, ◌<◌, ◌↔◌, IfOk, OnOk, OnErr, Err};
+ghost use Rattle.std.specs.Prelude.{◌≡◌, ◌+◌, ◌*◌, ◌^◌, ◌<◌, ◌≤◌, ◌↔◌, ◌++◌, IfOk, OnOk, OnErr, Err};
 ghost use Rattle.sp_defs.specs.Laurent.{plus, times, size};
+ghost use Rattle.sp_defs.specs.Text.{polynomial_text, term_text};
 ghost use Rattle.sp_fock.specs.Shim.{ProductWithin};
 ghost use Rattle.sp_laurent.specs.Held.{power_limit};
 ghost use Rattle.sp_fock.specs.declared.shim.LaurentFault.TheVariants.{Memory};
@@ -35,7 +36,8 @@ pub(crate) fn copy(p: &Laurent, alloc: Global) -> Result<Laurent, AllocError>
 }
 
 pub(crate) fn add_scaled(p: &mut Laurent, alloc: Global, a: &Laurent, b: &Laurent, limit: u128) -> Result<(), LaurentFault>
-    requires small { limit < 2 ^ 127 }
+    requires least { 1 ≤ limit }
+    requires most { limit < 2 ^ 127 }
     requires within { ProductWithin power_limit a.now b.now }
     ensures ok { OnOk result (p.new ≡ plus p.old (times a.now b.now)) }
     ensures too_large { (result ≡ Err LaurentFault.TooLarge) ↔ (limit < size p.old + size a.now * size b.now) }
@@ -46,4 +48,18 @@ pub(crate) fn add_scaled(p: &mut Laurent, alloc: Global, a: &Laurent, b: &Lauren
         return Err(LaurentFault::TooLarge);
     }
     Err(LaurentFault::Memory)
+}
+
+pub(crate) fn print(p: &Laurent, alloc: Global, out: &mut Vec<u8>) -> Result<(), AllocError>
+    ensures text { OnOk result (out.new.items ≡ out.old.items ++ polynomial_text p.now) }
+    ensures kept { OnErr result (out.new.items ≡ out.old.items) }
+{
+    Err(AllocError)
+}
+
+pub(crate) fn put_term(alloc: Global, out: &mut Vec<u8>, power: i32, coefficient: i128) -> Result<(), AllocError>
+    ensures text { OnOk result (out.new.items ≡ out.old.items ++ term_text (power, coefficient)) }
+    ensures kept { OnErr result (out.new.items ≡ out.old.items) }
+{
+    Err(AllocError)
 }

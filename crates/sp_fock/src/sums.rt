@@ -1,5 +1,5 @@
 // Sums of ascending lists of pairs.
-ghost use Rattle.std.specs.Prelude.{◌≡◌, ◌≢◌, ◌^◌, ◌<◌, IfOk, Err};
+ghost use Rattle.std.specs.Prelude.{◌≡◌, ◌≢◌, ◌^◌, ◌<◌, ◌≤◌, IfOk, IsErrOf};
 ghost use Rattle.std.specs.List.{AllByRecursion};
 ghost use Rattle.sp_fock_law.specs.Joined.{combined, joined};
 ghost use Rattle.sp_fock.specs.Held.{ArePairs};
@@ -16,10 +16,11 @@ use std::alloc::{AllocError, Global};
 impl<'a> Joint<'a> {
     // The first and `factor` times the second.
     fn sum(&self, alloc: Global, factor: &Laurent, limit: u128) -> Result<Laurent, FockFault>
-        requires small { limit < 2 ^ 127 }
+        requires least { 1 ≤ limit }
+        requires most { limit < 2 ^ 127 }
         requires can { CanAdd factor.now limit (joint_of self.now) }
         ensures sum { IfOk result (λ sum. sum ≡ added factor.now (joint_of self.now).first (joint_of self.now).second) }
-        ensures fits { result ≢ Err FockFault.TooLarge }
+        ensures fits { ¬ IsErrOf result FockFault.TooLarge }
     {
         let mut sum = copy_of(alloc, self.first)?;
         if let Some(second) = self.second {
@@ -47,11 +48,12 @@ pub(crate) fn sum_of(
     second: &[(Partition, Laurent)],
     limit: u128,
 ) -> Result<Vec<(Partition, Laurent)>, FockFault>
-    requires small { limit < 2 ^ 127 }
+    requires least { 1 ≤ limit }
+    requires most { limit < 2 ^ 127 }
     requires can { AllByRecursion (CanAdd factor.now limit) (joined first.now second.now) }
     ensures sum { IfOk result (λ sums. sums.items ≡ combined (added factor.now) (joined first.now second.now)) }
     ensures held { IfOk result (λ sums. ArePairs sums.items) }
-    ensures fits { result ≢ Err FockFault.TooLarge }
+    ensures fits { ¬ IsErrOf result FockFault.TooLarge }
 {
     let mut sums = Vec::new(alloc);
     for joint in (Joined { first, second }) {

@@ -1,5 +1,5 @@
 // A vector is kept as the ascending list of its partitions and polynomials.
-ghost use Rattle.std.specs.Prelude.{◌≡◌, ◌≢◌, ◌^◌, ◌<◌, ◌≤◌, ◌↔◌, [], reverse, Err, IsTrue, IfOk, OnOk, OnErr, MatchOption};
+ghost use Rattle.std.specs.Prelude.{◌≡◌, ◌≢◌, ◌^◌, ◌<◌, ◌≤◌, ◌↔◌, [], reverse, IsErrOf, IsTrue, IfOk, OnOk, OnErr, MatchOption};
 ghost use Rattle.std.specs.List.{AllByRecursion};
 ghost use Rattle.sp_defs.specs.Partition.{degree as degree_of};
 ghost use Rattle.sp_defs.specs.Power.{fock_vector, unit, vector_of};
@@ -110,10 +110,11 @@ impl Vector {
     /// the limit together. After a refusal the vector is as before.
     pub fn add_scaled(&mut self, alloc: Global, a: &Laurent, w: &Vector, limit: u128) -> Result<(), FockFault>
         requires one_degree { self.old.degree ≡ w.now.degree }
-        requires small { limit < 2 ^ 127 }
+        requires least { 1 ≤ limit }
+        requires most { limit < 2 ^ 127 }
         requires within { AllByRecursion (λ t. ProductWithin power_limit a.now t.1) w.now.entries }
         ensures ok { OnOk result (self.new ≡ fock_vector self.old.degree (plus_scaled (vector_of self.old.entries) a.now (vector_of w.now.entries))) }
-        ensures too_large { (result ≡ Err FockFault.TooLarge) ↔ (limit < addition_weight self.old.degree (vector_of self.old.entries) a.now (vector_of w.now.entries)) }
+        ensures too_large { IsErrOf result FockFault.TooLarge ↔ (limit < addition_weight self.old.degree (vector_of self.old.entries) a.now (vector_of w.now.entries)) }
         ensures kept { OnErr result (self.new ≡ self.old) }
     {
         if !self.sum_fits(a, w, limit) {
@@ -133,11 +134,12 @@ impl Vector {
     // This and `a` times `w`.
     fn sum(&self, alloc: Global, a: &Laurent, w: &Vector, limit: u128) -> Result<Vector, FockFault>
         requires one_degree { self.now.degree ≡ w.now.degree }
-        requires small { limit < 2 ^ 127 }
+        requires least { 1 ≤ limit }
+        requires most { limit < 2 ^ 127 }
         requires within { AllByRecursion (λ t. ProductWithin power_limit a.now t.1) w.now.entries }
         requires fits { addition_weight self.now.degree (vector_of self.now.entries) a.now (vector_of w.now.entries) ≤ limit }
         ensures sum { IfOk result (λ sum. sum ≡ fock_vector self.now.degree (plus_scaled (vector_of self.now.entries) a.now (vector_of w.now.entries))) }
-        ensures fits { result ≢ Err FockFault.TooLarge }
+        ensures fits { ¬ IsErrOf result FockFault.TooLarge }
     {
         Ok(Vector {
             degree: self.degree,
