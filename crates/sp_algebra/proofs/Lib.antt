@@ -6,3 +6,4 @@ pub mod Sums
 pub mod Positive
 pub mod Sizes
 pub mod Places
+pub mod Steps

@@ -1,4 +1,4 @@
-use Rattle.std.proofs.Common.{◌≡◌, rules, sym, ◌∙◌, ap, subst, get_or, Ok, Err, to_z, of_z, int_cmp, SFits, w32, to_z-of_z}
+use Rattle.std.proofs.Common.{rules, sym, ◌∙◌, ap, subst, get_or, Ok, Err, to_z, of_z, int_cmp, SFits, w32, to_z-of_z}
 use Rattle.std.specs.Int.{w128}
 use Rattle.std.specs.List.Sorted.{IsBinarySearchResult}
 use Rattle.std.proofs.lemmas.List.Sorted.{answers_always}
