@@ -1,5 +1,5 @@
 -- The greatest of a list of numbers.
-use Rattle.std.proofs.Common.{◌≡◌, ℕ, ◌<◌, ◌≤◌, max, fold, List, [], ◌∷◌, map, refl, sym, ◌∙◌, ap, arith, ◌⊎◌, inl, inr}
+use Rattle.std.proofs.Common.{◌≡◌, ℕ, ◌<◌, ◌≤◌, max, fold, List, [], ◌∷◌, map, refl, sym, ◌∙◌, ap, arith, ◌↔◌}
 use Rattle.std.specs.List.{AllByRecursion}
 
 -- the greatest of a start and a list
@@ -31,3 +31,7 @@ pub within_map : {X : Type 0} (f : X → ℕ) (b : ℕ) (xs : List X) → AllByR
     AllByRecursion (λ x. f x ≤ b) xs
 within_map f b [] h = tt
 within_map f b (x ∷ xs) (h, hs) = (h, within_map f b xs hs)
+
+-- in one statement
+pub greatest_exactly : (b : ℕ) (xs : List ℕ) → (fold max 0 xs ≤ b) ↔ AllByRecursion (λ x. x ≤ b) xs
+greatest_exactly b xs = (within_greatest b xs, greatest_within b xs)
