@@ -1,13 +1,13 @@
 -- How the words of a line say a command: numbers past a byte say none.
 use Rattle.std.proofs.Common.{◌≡◌, ◌≢◌, ℕ, ◌+◌, ◌<◌, ◌≤◌, cond, Bool, true, false, ◌&&◌, List, [], ◌∷◌, refl, sym, ◌∙◌, ap, ap₂}
-use Rattle.std.proofs.Common.{nat_lt, nat_le, arith, cond, eqb, ◌⊎◌, inl, inr}
+use Rattle.std.proofs.Common.{nat_lt, nat_le, arith, cond, eqb, subst, ◌⊎◌, inl, inr}
 use Rattle.std.proofs.lemmas.Bool.{ltb-false, ltb-true, leb-true, lt-leb}
-use Rattle.std.specs.Prelude.{Option, Some, None, codes}
+use Rattle.std.specs.Prelude.{Option, Some, None, codes, IfSome}
 use Rattle.sp_defs.specs.Partition.{degree, is_regular}
 use Rattle.sp_partition.specs.declared.TheConstants.{DEGREE_LIMIT}
 use Rattle.sp_lang.specs.Small.{small}
 use Rattle.sp_lang.specs.Words.{is_text, words, onto_first, number_of, partition_of}
-use Rattle.sp_lang.specs.Built.{is_e, induce_of, induce_from, label_of, label_from, with_label, command_from, command_of}
+use Rattle.sp_lang.specs.Built.{IsCommand, can_induce, can_label, is_e, induce_of, induce_from, label_of, label_from, with_label, command_from, command_of}
 use Rattle.sp_lang.specs.declared.command.Command.{Command}
 use Rattle.sp_lang.specs.declared.command.Command.TheVariants.{Induce, Ladders, Ladder}
 
@@ -31,10 +31,6 @@ label_of-small (Some e) mu = by_test (nat_lt e 256) refl mu
     by_test false is (Some mu) =
         ap (λ t. label_of (cond t (Some e) None) (Some mu)) is
         ∙ sym (ap (λ t. cond (t && is_regular e mu) (Some (e, mu)) None) (not_e e is))
-
--- The test of an `induce` command.
-abbrev pub can_induce : ℕ → ℕ → ℕ → List ℕ → Bool
-can_induce e i m p = is_e e && (nat_lt i e && nat_le (degree p + m) DEGREE_LIMIT)
 
 and_true_left : (a b : Bool) → (a && b) ≡ true → a ≡ true
 and_true_left true b h = refl
@@ -193,3 +189,60 @@ pub first_other : (line first rest : List ℕ) → begins line first rest → is
     is_text first (codes "ladders") ≡ false → is_text first (codes "ladder") ≡ false → command_of line ≡ None
 unfolding choice
 first_other line first rest is a b c = by_word line first rest false false false is a b c
+
+-- ---- a command that is said is one
+
+holds_or_none : (t : Bool) (c : Command) → (t ≡ true → IsCommand c) → IfSome (cond t (Some c) None) IsCommand
+holds_or_none true c h = h refl
+holds_or_none false c h = tt
+
+induce_is : (e i m : Option ℕ) (p : Option (List ℕ)) → IfSome (induce_of e i m p) IsCommand
+induce_is None i m p = tt
+induce_is (Some e) None m p = tt
+induce_is (Some e) (Some i) None p = tt
+induce_is (Some e) (Some i) (Some m) None = tt
+induce_is (Some e) (Some i) (Some m) (Some p) = holds_or_none (can_induce e i m p) (Induce e i m p) (λ h. h)
+
+induce_from_is : (ws : List (List ℕ)) → IfSome (induce_from ws) IsCommand
+induce_from_is (e ∷ i ∷ m ∷ p ∷ []) = induce_is (number_of e) (number_of i) (number_of m) (partition_of DEGREE_LIMIT p)
+induce_from_is [] = tt
+induce_from_is (e ∷ []) = tt
+induce_from_is (e ∷ i ∷ []) = tt
+induce_from_is (e ∷ i ∷ m ∷ []) = tt
+induce_from_is (e ∷ i ∷ m ∷ p ∷ q ∷ ws) = tt
+
+labelled : (command : ℕ → List ℕ → Command) → ((e : ℕ) (mu : List ℕ) → can_label e mu ≡ true → IsCommand (command e mu)) →
+    (e : Option ℕ) (mu : Option (List ℕ)) → IfSome (with_label command (label_of e mu)) IsCommand
+labelled command h None mu = tt
+labelled command h (Some e) None = tt
+labelled command h (Some e) (Some mu) = by_test (can_label e mu) refl
+  where
+    by_test : (t : Bool) → can_label e mu ≡ t → IfSome (with_label command (label_of (Some e) (Some mu))) IsCommand
+    by_test true is =
+        subst (λ t. IfSome (with_label command (cond t (Some (e, mu)) None)) IsCommand) (sym is) (h e mu is)
+    by_test false is = subst (λ t. IfSome (with_label command (cond t (Some (e, mu)) None)) IsCommand) (sym is) tt
+
+label_from_is : (command : ℕ → List ℕ → Command) → ((e : ℕ) (mu : List ℕ) → can_label e mu ≡ true → IsCommand (command e mu)) →
+    (ws : List (List ℕ)) → IfSome (with_label command (label_from ws)) IsCommand
+label_from_is command h (e ∷ mu ∷ []) = labelled command h (number_of e) (partition_of DEGREE_LIMIT mu)
+label_from_is command h [] = tt
+label_from_is command h (e ∷ []) = tt
+label_from_is command h (e ∷ mu ∷ w ∷ ws) = tt
+
+pub is_command : (line : List ℕ) → IfSome (command_of line) IsCommand
+unfolding command_of
+is_command line = of_words (words line)
+  where
+    any : (a b c : Bool) (x y z : Option Command) → IfSome x IsCommand → IfSome y IsCommand → IfSome z IsCommand →
+        IfSome (cond a x (cond b y (cond c z None))) IsCommand
+    any true b c x y z hx hy hz = hx
+    any false true c x y z hx hy hz = hy
+    any false false true x y z hx hy hz = hz
+    any false false false x y z hx hy hz = tt
+
+    of_words : (ws : List (List ℕ)) → IfSome (command_from ws) IsCommand
+    of_words [] = tt
+    of_words (first ∷ rest) =
+        any (is_text first (codes "induce")) (is_text first (codes "ladders")) (is_text first (codes "ladder"))
+        (induce_from rest) (with_label Ladders (label_from rest)) (with_label Ladder (label_from rest))
+        (induce_from_is rest) (label_from_is Ladders (λ e mu h. h) rest) (label_from_is Ladder (λ e mu h. h) rest)

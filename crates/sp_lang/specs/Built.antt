@@ -1,5 +1,5 @@
 -- The lines that are commands, and the command that each says. This project's own.
-use Rattle.std.specs.Prelude.{ℕ, ◌+◌, Bool, cond, ◌&&◌, nat_le, nat_lt, List, [], ◌∷◌, Option, Some, None, codes}
+use Rattle.std.specs.Prelude.{◌≡◌, ℕ, ◌+◌, Bool, true, cond, ◌&&◌, nat_le, nat_lt, List, [], ◌∷◌, Option, Some, None, codes}
 use Rattle.sp_defs.specs.Partition.{degree, is_regular}
 use Rattle.sp_lang.specs.declared.command.Command.{Command}
 use Rattle.sp_lang.specs.declared.command.Command.TheVariants.{Induce, Ladders, Ladder}
@@ -9,10 +9,24 @@ use Rattle.sp_partition.specs.declared.TheConstants.{DEGREE_LIMIT}
 abbrev pub is_e : ℕ → Bool
 is_e e = nat_le 2 e && nat_le e 64
 
+-- What an induction needs.
+abbrev pub can_induce : ℕ → ℕ → ℕ → List ℕ → Bool
+can_induce e i m p = is_e e && (nat_lt i e && nat_le (degree p + m) DEGREE_LIMIT)
+
+-- What a label is.
+abbrev pub can_label : ℕ → List ℕ → Bool
+can_label e mu = is_e e && is_regular e mu
+
+-- What holds of the numbers of a command.
+abbrev pub IsCommand : Command → Type 0
+IsCommand (Induce e i m p) = can_induce e i m p ≡ true
+IsCommand (Ladders e mu) = can_label e mu ≡ true
+IsCommand (Ladder e mu) = can_label e mu ≡ true
+
 -- induce e i m p: the residue is below e, and no more than the degree limit is reached.
 abbrev pub induce_of : Option ℕ → Option ℕ → Option ℕ → Option (List ℕ) → Option Command
 induce_of (Some e) (Some i) (Some m) (Some p) =
-    cond (is_e e && (nat_lt i e && nat_le (degree p + m) DEGREE_LIMIT)) (Some (Induce e i m p)) None
+    cond (can_induce e i m p) (Some (Induce e i m p)) None
 induce_of (Some e) (Some i) (Some m) None = None
 induce_of (Some e) (Some i) None p = None
 induce_of (Some e) None m p = None
@@ -20,7 +34,7 @@ induce_of None i m p = None
 
 -- e mu: mu is e-regular.
 abbrev pub label_of : Option ℕ → Option (List ℕ) → Option (ℕ × List ℕ)
-label_of (Some e) (Some mu) = cond (is_e e && is_regular e mu) (Some (e, mu)) None
+label_of (Some e) (Some mu) = cond (can_label e mu) (Some (e, mu)) None
 label_of (Some e) None = None
 label_of None mu = None
 

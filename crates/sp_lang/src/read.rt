@@ -1,6 +1,6 @@
 // A line as a command.
-ghost use Rattle.std.specs.Prelude.{◌≡◌};
-ghost use Rattle.sp_lang.specs.Built.{command_of, is_e, induce_from, induce_of, label_from, label_of, with_label};
+ghost use Rattle.std.specs.Prelude.{◌≡◌, IfSome};
+ghost use Rattle.sp_lang.specs.Built.{IsCommand, command_of, is_e, induce_from, induce_of, label_from, label_of, with_label};
 ghost use Rattle.sp_lang.specs.declared.command.Command.TheVariants.{Ladder, Ladders};
 ghost use Rattle.sp_lang.specs.Words.{partition_of, words};
 
@@ -11,6 +11,13 @@ use sp_partition::{DEGREE_LIMIT, Partition};
 
 /// The command that a line says, if it says one.
 pub fn read_command(line: &[u8]) -> Option<Command>
+    ensures says { result ≡ command_of line.now }
+    ensures command { IfSome result IsCommand }
+{
+    said(line)
+}
+
+fn said(line: &[u8]) -> Option<Command>
     ensures { result ≡ command_of line.now }
 {
     let Some((first, rest)) = split_word(line) else {
