@@ -4,3 +4,8 @@ pub mod Canonical
 pub mod Laws
 pub mod Sums
 pub mod Positive
+pub mod PositiveSizes
+pub mod Sizes
+pub mod Places
+pub mod Reordered
+pub mod Steps

@@ -23,7 +23,7 @@ positive_add_term k c ((j, d) ∷ p) hc (hd, h) =
       | Greater ↦ (hd, positive_add_term k c p hc h)
     ]
 
-positive_collect : (ts : Laurent) → AllPositive ts → AllPositive (collect ts)
+pub positive_collect : (ts : Laurent) → AllPositive ts → AllPositive (collect ts)
 unfolding collect
 positive_collect [] h = tt
 positive_collect ((k, c) ∷ ts) (hc, h) = positive_add_term k c (collect ts) hc (positive_collect ts h)

@@ -8,3 +8,4 @@ pub mod Statements
 pub mod Signature
 pub mod Abacus
 pub mod Text
+pub mod Within

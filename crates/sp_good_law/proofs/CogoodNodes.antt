@@ -1,8 +1,7 @@
 -- Adding the cogood node keeps e-regularity.
 -- It could break regularity only where the e - 1 rows above are all one node longer. But then the first of them can
--- gain a
--- node of the same residue, and no mark stands between: so the lower node isn't the highest A left.
-use Rattle.std.proofs.Common.{◌≡◌, ◌≢◌, ℕ, zero, suc, ◌+◌, ◌-◌, ◌<◌, ◌≤◌, true, List, [], ◌∷◌, ◌++◌, length, refl, sym}
+-- gain a node of the same residue, and no mark stands between: so the lower node isn't the highest A left.
+use Rattle.std.proofs.Common.{◌≡◌, ◌≢◌, ℕ, suc, ◌+◌, ◌-◌, ◌<◌, ◌≤◌, true, List, [], ◌∷◌, ◌++◌, length, refl, sym}
 use Rattle.std.proofs.Common.{◌∙◌, ap, ap₂, subst, arith, slice_index, ◌⊎◌, inl, inr, Option, Some, None}
 use Rattle.std.specs.List.{AllByRecursion}
 use Rattle.sp_defs.specs.Partition.{part, IsPartition, is_regular}
@@ -11,9 +10,8 @@ use Rattle.sp_defs.specs.Signature.{Addable, Removable, Mark, row_marks, signatu
 use Rattle.sp_defs.specs.Signature.{cogood, add_node, grow}
 use Rattle.sp_lists.proofs.Elements.{le_or_lt}
 use Rattle.sp_shapes.proofs.Order.{all_mono}
-use Rattle.sp_shapes.proofs.Diagram.{IsPartition-tail, IsPartition-head}
-use Rattle.sp_shapes.proofs.Listing.{IsPartition-nil, IsPartition-cons}
 use Rattle.sp_shapes.proofs.Corners.{part_is, row_addable, addable_row}
+use Rattle.sp_shapes.proofs.Grow.{Room, grow_other, grow_same, IsPartition-grow, full_rows}
 use Rattle.sp_shapes.proofs.Regular.{regular_gap, descends}
 use Rattle.sp_shapes.proofs.Residues.{same_column, column_before, full_turn}
 use Rattle.sp_good_law.proofs.RowRegular.{RowRegular, rows_regular}
@@ -21,74 +19,6 @@ use Rattle.sp_good_law.proofs.Marks.{all_reduced, IsMark, row_A, row_none, marks
 use Rattle.sp_good_law.proofs.Marks.{signature_rows}
 
 -- ---- one node more
-
--- row k, counted from 0, can grow
-pub record Room (xs : List ℕ) (k : ℕ) : Type 0 where
-  pub there : k ≤ length xs
-  pub less : 0 < k → slice_index xs k < slice_index xs (k - 1)
-
-room-tail : (x : ℕ) (xs : List ℕ) (k : ℕ) → Room (x ∷ xs) (suc k) → Room xs k
-room-tail x xs k h =
-    record {
-      there =
-          omega (arith, h.there);
-      less = λ w.
-          subst (λ n. slice_index xs k < n) (moved k w) (h.less (omega arith));
-    }
-  where
-    moved : (k : ℕ) → 0 < k → slice_index (x ∷ xs) (suc k - 1) ≡ slice_index xs (k - 1)
-    moved k w = let e : suc k - 1 ≡ suc (k - 1) = omega arith in ap (slice_index (x ∷ xs)) e
-
--- the other rows stay, and row k gains one
-pub grow_other : (xs : List ℕ) (k j : ℕ) → j ≢ k → slice_index (grow k xs) j ≡ slice_index xs j
-unfolding grow
-grow_other [] zero zero ne = absurd (ne refl)
-grow_other [] zero (suc j) ne = refl
-grow_other [] (suc k) j ne = refl
-grow_other (x ∷ xs) zero zero ne = absurd (ne refl)
-grow_other (x ∷ xs) zero (suc j) ne = refl
-grow_other (x ∷ xs) (suc k) zero ne = refl
-grow_other (x ∷ xs) (suc k) (suc j) ne = grow_other xs k j (λ e. ne (ap suc e))
-
-pub grow_same : (xs : List ℕ) (k : ℕ) → k ≤ length xs → slice_index (grow k xs) k ≡ slice_index xs k + 1
-unfolding grow
-grow_same [] zero h = refl
-grow_same [] (suc k) h = absurd (omega arith)
-grow_same (x ∷ xs) zero h = omega arith
-grow_same (x ∷ xs) (suc k) h = grow_same xs k (omega arith)
-
-pub IsPartition-grow : (xs : List ℕ) (k : ℕ) → IsPartition xs → Room xs k → IsPartition (grow k xs)
-unfolding grow
-IsPartition-grow [] zero h r = IsPartition-cons 1 [] (omega arith) (omega arith) IsPartition-nil
-IsPartition-grow [] (suc k) h r = h
-IsPartition-grow (x ∷ xs) zero h r =
-    let d : slice_index xs 0 ≤ x = h.descending 0 in
-    IsPartition-cons (suc x) xs (omega arith) (omega (arith, d)) (IsPartition-tail x xs h)
-IsPartition-grow (x ∷ xs) (suc k) h r = IsPartition-cons x (grow k xs) (IsPartition-head x xs h) (low (le_or_lt k 0))
-    (IsPartition-grow xs k (IsPartition-tail x xs h) (room-tail x xs k r))
-  where
-    d : slice_index xs 0 ≤ x
-    d = h.descending 0
-
-    low : (k ≤ 0) ⊎ (0 < k) → slice_index (grow k xs) 0 ≤ x
-    low (inl z) =
-        let s : slice_index (grow k xs) 0 ≡ slice_index xs 0 + 1 =
-        subst (λ n. slice_index (grow k xs) n ≡ slice_index xs n + 1) k0
-        (grow_same xs k (omega (arith, r.there))) in
-        let w : slice_index xs 0 < x = subst (λ n. slice_index xs n < slice_index (x ∷ xs) n) k0
-        (subst (λ m. slice_index xs k < slice_index (x ∷ xs) m) (one k) (r.less (omega arith))) in
-        omega (arith, s, w)
-      where
-        k0 : k ≡ 0
-        k0 = omega arith
-
-        one : (k : ℕ) → suc k - 1 ≡ k
-        one k = omega arith
-    low (inr w) = omega (arith, grow_other xs k 0 (λ e. omega arith), d)
-
--- no part within the length is 0
-pub full_rows : (xs : List ℕ) (j : ℕ) → IsPartition xs → j < length xs → 0 < slice_index xs j
-full_rows xs j h lt = h.positive j 0 lt
 
 -- a node more keeps regularity, unless the part e - 1 rows above is just one greater
 pub grow_regular : (e : ℕ) (xs : List ℕ) (k : ℕ) → 2 ≤ e → IsPartition xs → RowRegular e xs → Room xs k →

@@ -1,8 +1,7 @@
 -- Good moves keep e-regularity, and an e-regular partition that isn't empty has a good node.
 -- Removing a node could break regularity only where the next e - 1 rows are one node shorter. But then the node e - 1
--- rows
--- further down is removable too, has the same residue, and no mark stands between: so the upper node isn't the good
--- one.
+-- rows further down is removable too, has the same residue, and no mark stands between: so the upper node isn't the
+-- good one.
 use Rattle.std.proofs.Common.{◌≡◌, ◌≢◌, ℕ, zero, suc, ◌+◌, ◌-◌, ◌<◌, ◌≤◌, true, List, [], ◌∷◌, ◌++◌, length, refl}
 use Rattle.std.proofs.Common.{sym, ◌∙◌, ap, ap₂, subst, arith, slice_index, ◌⊎◌, inl, inr, Option, Some, None}
 use Rattle.std.proofs.Common.{append-nil}

@@ -1,6 +1,5 @@
 -- Regularity by rows: a partition is e-regular where each part that is not 0 is less than the part e - 1 rows above.
--- And
--- what one node less does to the rows and to regularity.
+-- And what one node less does to the rows and to regularity.
 use Rattle.std.proofs.Common.{◌≡◌, ◌≢◌, ℕ, zero, suc, ◌+◌, ◌-◌, ◌<◌, ◌≤◌, Bool, true, false, cond, nat_eq, nat_le}
 use Rattle.std.proofs.Common.{nat_lt, List, [], ◌∷◌, refl, sym, ap, subst, arith, count_by, slice_index, ◌⊎◌, inl, inr}
 use Rattle.std.proofs.Common.{eqb-true, ne_eqb, lt-ltb, leb-true, leb-false}

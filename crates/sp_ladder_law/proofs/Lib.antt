@@ -7,3 +7,4 @@ pub mod Exponent
 pub mod Dominance
 pub mod LadderLaw
 pub mod Contents
+pub mod Weights

@@ -4,5 +4,9 @@ pub mod Listing
 pub mod Moves
 pub mod Residues
 pub mod Regular
+pub mod Grow
+pub mod Within
+pub mod Degrees
 pub mod Before
 pub mod Corners
+pub mod CornerRows

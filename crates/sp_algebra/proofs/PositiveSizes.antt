@@ -1,0 +1,103 @@
+-- Where all coefficients are positive nothing cancels: the size of a sum is the sum of the sizes.
+use Rattle.std.proofs.Common.{◌≡◌, ◌≢◌, ℕ, ◌+◌, true, false, cond, List, [], ◌∷◌, ◌++◌, map, refl, sym, ◌∙◌, ap, ap₂, arith}
+use Rattle.std.proofs.Common.{ℤ, pos, negsuc, ◌+ℤ◌, ◌*ℤ◌, ◌<ℤ◌, Less, Equal, Greater, int_cmp, int_eq, sum_by, unsigned_abs}
+use Rattle.std.proofs.lemmas.Int.{ints}
+use Rattle.std.specs.List.{AllByRecursion}
+use Rattle.std.proofs.lemmas.List.Sums.{sum_by-cons, sum_by-append}
+use Rattle.sp_defs.specs.Laurent.{Laurent, put, placed, add_term, collect, plus, times, products, power, sum_over, size}
+use Rattle.sp_lists.proofs.Elements.{all_append}
+use Rattle.sp_algebra.proofs.Coefficients.{by_eq}
+use Rattle.sp_algebra.proofs.Positive.{AllPositive, positive_collect, positive_plus}
+
+pub size-cons : (k c : ℤ) (p : Laurent) → size ((k, c) ∷ p) ≡ unsigned_abs c + size p
+size-cons k c p = sum_by-cons (λ t. unsigned_abs t.1) (k, c) p
+
+pub size-append : (p q : Laurent) → size (p ++ q) ≡ size p + size q
+size-append p q = sum_by-append (λ t. unsigned_abs t.1) p q
+
+size-put : (k c : ℤ) (p : Laurent) → pos 0 <ℤ c → size (put k c p) ≡ unsigned_abs c + size p
+size-put k c p hc =
+    by_eq c (pos 0) (λ b. size (cond b p ((k, c) ∷ p)) ≡ unsigned_abs c + size p)
+    (λ z. absurd (omega (arith, ints, z, hc))) (λ _. size-cons k c p)
+
+abs-sum : (c d : ℤ) → pos 0 <ℤ c → pos 0 <ℤ d → unsigned_abs (c +ℤ d) ≡ unsigned_abs c + unsigned_abs d
+abs-sum (pos m) (pos n) hc hd = refl
+abs-sum (pos m) (negsuc n) hc hd = absurd (omega (arith, ints, hd))
+abs-sum (negsuc m) d hc hd = absurd (omega (arith, ints, hc))
+
+size-add_term : (k c : ℤ) (p : Laurent) → pos 0 <ℤ c → AllPositive p → size (add_term k c p) ≡ unsigned_abs c + size p
+unfolding add_term
+size-add_term k c [] hc h = size-put k c [] hc
+size-add_term k c ((j, d) ∷ p) hc (hd, h) =
+    elim (int_cmp k j) as (λ o. size (placed o (k, c) (j, d) p (add_term k c p)) ≡ unsigned_abs c + size ((j, d) ∷ p)) [
+      | Less ↦ size-put k c ((j, d) ∷ p) hc
+      | Equal ↦
+          let sum : size (put k (c +ℤ d) p) ≡ unsigned_abs (c +ℤ d) + size p = size-put k (c +ℤ d) p (omega (arith, ints)) in
+          omega (arith, sum, abs-sum c d hc hd, size-cons j d p)
+      | Greater ↦ omega (arith, size-cons j d (add_term k c p), size-add_term k c p hc h, size-cons j d p)
+    ]
+
+pub size-collect : (ts : Laurent) → AllPositive ts → size (collect ts) ≡ size ts
+unfolding collect
+size-collect [] h = refl
+size-collect ((k, c) ∷ ts) (hc, h) =
+    size-add_term k c (collect ts) hc (positive_collect ts h)
+    ∙ ap (λ n. unsigned_abs c + n) (size-collect ts h) ∙ sym (size-cons k c ts)
+
+pub size-plus : (p q : Laurent) → AllPositive p → AllPositive q → size (plus p q) ≡ size p + size q
+unfolding plus
+size-plus p q hp hq = size-collect (p ++ q) (all_append (λ t. pos 0 <ℤ t.1) p q hp hq) ∙ size-append p q
+
+-- ---- times a power
+
+shifted : ℤ → Laurent → Laurent
+shifted k p = map (λ t. (k +ℤ t.0, pos 1 *ℤ t.1)) p
+
+products-power : (k : ℤ) (p : Laurent) → products (power k) p ≡ shifted k p
+unfolding products shifted
+products-power k p = append-nil (map (λ t. (k +ℤ t.0, pos 1 *ℤ t.1)) p)
+  where
+    append-nil : (q : Laurent) → q ++ [] ≡ q
+    append-nil [] = refl
+    append-nil (t ∷ q) = ap (λ r. t ∷ r) (append-nil q)
+
+one-times : (c : ℤ) → pos 1 *ℤ c ≡ c
+one-times c = omega (arith, ints)
+
+positive-shifted : (k : ℤ) (p : Laurent) → AllPositive p → AllPositive (shifted k p)
+unfolding shifted
+positive-shifted k [] h = tt
+positive-shifted k ((j, c) ∷ p) (hc, h) = (omega (arith, ints, one-times c, hc), positive-shifted k p h)
+
+size-shifted : (k : ℤ) (p : Laurent) → size (shifted k p) ≡ size p
+unfolding shifted
+size-shifted k [] = refl
+size-shifted k ((j, c) ∷ p) =
+    size-cons (k +ℤ j) (pos 1 *ℤ c) (shifted k p)
+    ∙ ap₂ (λ a b. a + b) (ap unsigned_abs (one-times c)) (size-shifted k p) ∙ sym (size-cons j c p)
+
+pub positive-power_times : (k : ℤ) (p : Laurent) → AllPositive p → AllPositive (times (power k) p)
+unfolding times
+positive-power_times k p h =
+    let shift : AllPositive (products (power k) p) = rw (products-power k p) (positive-shifted k p h) in
+    positive_collect (products (power k) p) shift
+
+pub size-power_times : (k : ℤ) (p : Laurent) → AllPositive p → size (times (power k) p) ≡ size p
+unfolding times
+size-power_times k p h =
+    ap (λ ts. size (collect ts)) (products-power k p) ∙ size-collect (shifted k p) (positive-shifted k p h) ∙ size-shifted k p
+
+-- ---- sums over lists
+
+pub positive-sum_over : {X : Type 0} (xs : List X) (f : X → Laurent) → AllByRecursion (λ x. AllPositive (f x)) xs → AllPositive (sum_over xs f)
+unfolding sum_over
+positive-sum_over [] f h = tt
+positive-sum_over (x ∷ xs) f (h, hs) = positive_plus (f x) (sum_over xs f) h (positive-sum_over xs f hs)
+
+pub size-sum_over : {X : Type 0} (xs : List X) (f : X → Laurent) → AllByRecursion (λ x. AllPositive (f x)) xs →
+    size (sum_over xs f) ≡ sum_by (λ x. size (f x)) xs
+unfolding sum_over
+size-sum_over [] f h = refl
+size-sum_over (x ∷ xs) f (h, hs) =
+    size-plus (f x) (sum_over xs f) h (positive-sum_over xs f hs)
+    ∙ ap (λ n. size (f x) + n) (size-sum_over xs f hs) ∙ sym (sum_by-cons (λ x. size (f x)) x xs)

@@ -1,0 +1,17 @@
+-- What is asked of two entries before they are added.
+use Rattle.std.specs.Prelude.{ℕ, ◌+◌, ◌*◌, ◌≤◌}
+use Rattle.sp_defs.specs.Laurent.{Laurent, IsLaurent, plus, times, size}
+use Rattle.sp_fock_law.specs.Joined.{Joint}
+use Rattle.sp_partition.specs.Held.{IsHeld as IsHeldPartition}
+use Rattle.sp_laurent.specs.Held.{power_limit}
+use Rattle.sp_fock.specs.Shim.{ProductWithin}
+
+-- The second can be multiplied by a and added to the first, within the limit.
+pub record CanAdd (a : Laurent) (limit : ℕ) (j : Joint) : Type 0 where
+  pub partition : IsHeldPartition j.at
+  pub laurent : IsLaurent j.first
+  pub powers : ProductWithin power_limit a j.second
+  pub fits : size j.first + size a * size j.second ≤ limit
+
+abbrev pub added : Laurent → Laurent → Laurent → Laurent
+added a p q = plus p (times a q)

@@ -1,0 +1,108 @@
+// The canonical text of a vector.
+ghost use Rattle.std.specs.Prelude.{◌≡◌, ◌++◌, ◌↔◌, take, length, flat_map, true, IsTrue, OnOk, OnErr};
+ghost use Rattle.sp_fock.specs.Print.{first_entry_text};
+ghost use Rattle.sp_defs.specs.Text.{entry_text, factor_text, has_minus as has_minus_of, next_entry_text, vector_text, written};
+
+use crate::{shim, Terms, Vector};
+use sp_laurent::Laurent;
+use sp_partition::Partition;
+use std::alloc::{AllocError, Global};
+
+impl Vector {
+    /// Appends the canonical text. An `Err` leaves `out` as it was.
+    pub fn print(&self, alloc: Global, out: &mut Vec<u8>) -> Result<(), AllocError>
+        ensures text { OnOk result (out.new.items ≡ out.old.items ++ vector_text self.now.entries) }
+        ensures kept { OnErr result (out.new.items ≡ out.old.items) }
+    {
+        let length = out.len();
+        let printed = put_terms(alloc, out, self.terms());
+        if printed.is_err() {
+            out.truncate(length);
+        }
+        printed
+    }
+}
+
+// An `Err` may leave more at the end of `out`, here and below.
+fn put_terms(alloc: Global, out: &mut Vec<u8>, terms: Terms<'_>) -> Result<(), AllocError>
+    ensures text { OnOk result (out.new.items ≡ out.old.items ++ written terms.entry) }
+    ensures kept { OnErr result (take (length out.old.items) out.new.items ≡ out.old.items) }
+{
+    let mut rest = terms;
+    match rest.next() {
+        Some((at, coefficient)) => {
+            put_first_entry(alloc, out, &at, coefficient)?;
+            put_rest(alloc, out, rest)
+        }
+        None => {
+            out.push(b'0')?;
+            Ok(())
+        }
+    }
+}
+
+// The terms after the first, each with its sign between.
+fn put_rest(alloc: Global, out: &mut Vec<u8>, terms: Terms<'_>) -> Result<(), AllocError>
+    ensures text { OnOk result (out.new.items ≡ out.old.items ++ flat_map next_entry_text terms.entry) }
+    ensures kept { OnErr result (take (length out.old.items) out.new.items ≡ out.old.items) }
+{
+    for (at, coefficient) in terms {
+        put_next_entry(alloc, out, &at, coefficient)?;
+    }
+    Ok(())
+}
+
+fn put_first_entry(alloc: Global, out: &mut Vec<u8>, at: &Partition, coefficient: &Laurent) -> Result<(), AllocError>
+    ensures text { OnOk result (out.new.items ≡ out.old.items ++ first_entry_text (at.now, coefficient.now)) }
+    ensures kept { OnErr result (take (length out.old.items) out.new.items ≡ out.old.items) }
+{
+    let sign = if has_minus(coefficient) { "-" } else { "" };
+    out.extend_from_slice(sign.as_bytes())?;
+    put_entry(alloc, out, at, coefficient)
+}
+
+fn put_next_entry(alloc: Global, out: &mut Vec<u8>, at: &Partition, coefficient: &Laurent) -> Result<(), AllocError>
+    ensures text { OnOk result (out.new.items ≡ out.old.items ++ next_entry_text (at.now, coefficient.now)) }
+    ensures kept { OnErr result (take (length out.old.items) out.new.items ≡ out.old.items) }
+{
+    let sign = if has_minus(coefficient) { " - " } else { " + " };
+    out.extend_from_slice(sign.as_bytes())?;
+    put_entry(alloc, out, at, coefficient)
+}
+
+fn put_entry(alloc: Global, out: &mut Vec<u8>, at: &Partition, coefficient: &Laurent) -> Result<(), AllocError>
+    ensures text { OnOk result (out.new.items ≡ out.old.items ++ entry_text (at.now, coefficient.now)) }
+    ensures kept { OnErr result (take (length out.old.items) out.new.items ≡ out.old.items) }
+{
+    put_factor(alloc, out, coefficient)?;
+    out.push(b'[')?;
+    at.print(alloc, out)?;
+    out.push(b']')?;
+    Ok(())
+}
+
+// A single term is written without its sign, and not at all where it is 1 or -1.
+fn put_factor(alloc: Global, out: &mut Vec<u8>, coefficient: &Laurent) -> Result<(), AllocError>
+    ensures text { OnOk result (out.new.items ≡ out.old.items ++ factor_text coefficient.now) }
+    ensures kept { OnErr result (take (length out.old.items) out.new.items ≡ out.old.items) }
+{
+    match coefficient.terms() {
+        [] | [(0, 1 | -1)] => Ok(()),
+        [(power, constant)] => shim::put_term(alloc, out, *power, *constant),
+        _ => {
+            out.push(b'(')?;
+            shim::print(coefficient, alloc, out)?;
+            out.push(b')')?;
+            Ok(())
+        }
+    }
+}
+
+fn has_minus(coefficient: &Laurent) -> bool
+    ensures { IsTrue result ↔ (has_minus_of coefficient.now ≡ true) }
+{
+    match coefficient.terms() {
+        [(_, constant)] => *constant < 0,
+        _ => false,
+    }
+}

@@ -1,0 +1,6 @@
+pub mod Vectors
+pub mod Joined
+pub mod Places
+pub mod Single
+pub mod Steps
+pub mod JoinedAll

@@ -1,0 +1,28 @@
+-- The vector 0, and vectors with a single entry.
+use Rattle.std.proofs.Common.{◌≡◌, ◌≢◌, ℕ, cond, List, [], ◌∷◌, sym, ◌∙◌, refl}
+use Rattle.std.specs.Ordering.{is_eq}
+use Rattle.sp_defs.specs.Partition.{compare, partitions, IsPartition, IsPartitionOf, degree}
+use Rattle.sp_defs.specs.Laurent.{one, Laurent, IsLaurent, collect, add_term}
+use Rattle.sp_defs.specs.Power.{Vector, vector_of, entries, unit, IsVector}
+use Rattle.sp_fock_law.proofs.Vectors.{entries_at, entries-vector_of}
+
+pub entries-nought : (n : ℕ) → entries n (λ _. []) ≡ []
+entries-nought n = nothing_at (partitions n)
+  where
+    nothing_at : (xs : List (List ℕ)) → entries_at xs (λ _. []) ≡ []
+    nothing_at [] = refl
+    nothing_at (x ∷ xs) = nothing_at xs
+
+pub IsVector-nil : (n : ℕ) → IsVector n []
+IsVector-nil n = record { partitions_of = tt; ascending = tt; polynomials = tt }
+
+pub IsVector-single : (n : ℕ) (kappa : List ℕ) (p : Laurent) → IsPartitionOf n kappa → IsLaurent p → p ≢ [] → IsVector n ((kappa, p) ∷ [])
+IsVector-single n kappa p h laurent ne = record { partitions_of = (h, tt); ascending = (tt, tt); polynomials = ((laurent, ne), tt) }
+
+pub entries-single : (n : ℕ) (kappa : List ℕ) (p : Laurent) → IsPartitionOf n kappa → IsLaurent p → p ≢ [] → entries n (λ lambda. cond (is_eq (compare kappa lambda)) p []) ≡ (kappa, p) ∷ []
+unfolding vector_of
+entries-single n kappa p h laurent ne = entries-vector_of n ((kappa, p) ∷ []) (IsVector-single n kappa p h laurent ne)
+
+pub entries-unit : (kappa : List ℕ) → IsPartition kappa → entries (degree kappa) (unit kappa) ≡ (kappa, one) ∷ []
+unfolding collect add_term
+entries-unit kappa h = entries-single (degree kappa) kappa one (record { partition = h; total = refl }) refl (λ e. cc)

@@ -1,0 +1,4 @@
+pub mod Splitting
+pub mod Numbers
+pub mod Named
+pub mod Lines

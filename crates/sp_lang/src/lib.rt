@@ -1,0 +1,10 @@
+//! The commands, and how a line says one.
+#![tactic(auto)]
+
+mod command;
+mod number;
+mod read;
+mod word;
+
+pub use command::Command;
+pub use read::read_command;

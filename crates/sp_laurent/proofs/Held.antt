@@ -1,0 +1,49 @@
+-- Which lists of terms the code may hold.
+use Rattle.std.proofs.Common.{◌≡◌, ◌≢◌, ◌+◌, ◌*◌, ◌⊎◌, inl, inr, ◌∙◌, ap, cond, ◌^◌, ◌<◌, ◌≤◌, [], ◌∷◌, refl, sym, subst, arith, ℤ, pos}
+use Rattle.std.specs.Int.RustNames.{unsigned_abs}
+use Rattle.sp_defs.specs.Laurent.{Laurent, Term, IsLaurent, add_term, collect, monomial, plus, times, size}
+use Rattle.sp_algebra.proofs.Coefficients.{by_eq, IsLaurent-collect}
+use Rattle.sp_defs.specs.Within.{ProductWithin}
+use Rattle.sp_algebra.proofs.Laws.{IsLaurent-plus, plus_nought, nought_times, times_nought}
+use Rattle.sp_algebra.proofs.Sizes.{size-monomial, within_monomial, size_plus, size_times, within_plus, within_times}
+use Rattle.sp_laurent.specs.Held.{IsHeld, power_limit}
+
+-- equal terms
+abbrev pub Same : Term → Term → Type 0
+Same s t = s ≡ t
+
+pub held_nought : IsHeld []
+unfolding collect
+held_nought = record { laurent = refl; small = omega arith; powers = tt }
+
+IsLaurent-monomial : (k c : ℤ) → IsLaurent (monomial k c)
+unfolding collect add_term
+IsLaurent-monomial k c = IsLaurent-collect ((k, c) ∷ [])
+
+pub held_monomial : (k c : ℤ) → unsigned_abs c < 2 ^ 127 → unsigned_abs k ≤ power_limit → IsHeld (monomial k c)
+held_monomial k c small within = record {
+  laurent = IsLaurent-monomial k c;
+  small = omega (arith, size-monomial k c);
+  powers = within_monomial power_limit k c within;
+}
+
+pub one_term : (k c : ℤ) → c ≢ pos 0 → monomial k c ≡ (k, c) ∷ []
+one_term k c ne =
+    let term : Term = (k, c) in
+    by_eq c (pos 0) (λ b. cond b [] (term ∷ []) ≡ term ∷ []) (λ e. absurd (ne e)) (λ _. refl)
+
+-- a single term
+pub held_term : (k c : ℤ) → c ≢ pos 0 → unsigned_abs c < 2 ^ 127 → unsigned_abs k ≤ power_limit → IsHeld ((k, c) ∷ [])
+held_term k c ne small within = subst IsHeld (one_term k c ne) (held_monomial k c small within)
+
+pub held_sum : (p a b : Laurent) → IsHeld p → size p + size a * size b < 2 ^ 127 → ProductWithin power_limit a b → IsHeld (plus p (times a b))
+held_sum p a b held small within = record {
+  laurent = IsLaurent-plus p (times a b);
+  small = omega (arith, size_plus p (times a b), size_times a b);
+  powers = within_plus power_limit p (times a b) held.powers (within_times power_limit a b within);
+}
+
+-- a product with 0 adds nothing
+pub add_none : (p a b : Laurent) → IsLaurent p → (a ≡ []) ⊎ (b ≡ []) → p ≡ plus p (times a b)
+add_none p a b h (inl e) = sym (ap (plus p) (ap (λ q. times q b) e ∙ nought_times b) ∙ plus_nought p h)
+add_none p a b h (inr e) = sym (ap (plus p) (ap (times a) e ∙ times_nought a) ∙ plus_nought p h)

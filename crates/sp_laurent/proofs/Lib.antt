@@ -1,0 +1,5 @@
+pub mod Machine
+pub mod Held
+pub mod Merging
+pub mod Multiple
+pub mod Product

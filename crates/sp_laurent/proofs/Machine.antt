@@ -1,0 +1,21 @@
+-- Sums and products of signed numbers in their machine form.
+use Rattle.std.proofs.Common.{◌≡◌, ◌<◌, ◌^◌, sym, ◌∙◌, ap₂, subst, ℤ, ◌+ℤ◌, ◌*ℤ◌, to_z, of_z, SFits, to_z-of_z}
+use Rattle.std.proofs.lemmas.Int.{fits_signed_from_abs}
+use Rattle.std.specs.Int.RustNames.{unsigned_abs}
+use mir.Syntax.{Width, w128}
+
+pub small_fits : (z : ℤ) → unsigned_abs z < 2 ^ 127 → SFits w128 z
+small_fits z small = fits_signed_from_abs w128 z small
+
+module _ (w : Width) (a b : ℤ) (a_fits : SFits w a) (b_fits : SFits w b) where
+  pub add_fits : SFits w (a +ℤ b) → SFits w (to_z w (of_z w a) +ℤ to_z w (of_z w b))
+  add_fits fits = subst (λ x. SFits w x) (sym (ap₂ (λ x y. x +ℤ y) (to_z-of_z a_fits) (to_z-of_z b_fits))) fits
+
+  pub add_back : SFits w (a +ℤ b) → to_z w (of_z w (to_z w (of_z w a) +ℤ to_z w (of_z w b))) ≡ a +ℤ b
+  add_back fits = to_z-of_z (add_fits fits) ∙ ap₂ (λ x y. x +ℤ y) (to_z-of_z a_fits) (to_z-of_z b_fits)
+
+  pub mul_fits : SFits w (a *ℤ b) → SFits w (to_z w (of_z w a) *ℤ to_z w (of_z w b))
+  mul_fits fits = subst (λ x. SFits w x) (sym (ap₂ (λ x y. x *ℤ y) (to_z-of_z a_fits) (to_z-of_z b_fits))) fits
+
+  pub mul_back : SFits w (a *ℤ b) → to_z w (of_z w (to_z w (of_z w a) *ℤ to_z w (of_z w b))) ≡ a *ℤ b
+  mul_back fits = to_z-of_z (mul_fits fits) ∙ ap₂ (λ x y. x *ℤ y) (to_z-of_z a_fits) (to_z-of_z b_fits)

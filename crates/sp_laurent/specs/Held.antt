@@ -1,0 +1,12 @@
+-- What is true of every polynomial that the code holds.
+use Rattle.std.specs.Prelude.{ℕ, ◌^◌, ◌<◌}
+use Rattle.sp_defs.specs.Laurent.{Laurent, IsLaurent, size}
+use Rattle.sp_defs.specs.Within.{PowersWithin}
+
+abbrev pub power_limit : ℕ
+power_limit = 1000000000
+
+pub record IsHeld (p : Laurent) : Type 0 where
+  pub laurent : IsLaurent p
+  pub small : size p < 2 ^ 127
+  pub powers : PowersWithin power_limit p

@@ -1,0 +1,131 @@
+//! Laurent polynomials in v with whole coefficients, whose size and powers have limits.
+#![tactic(auto)]
+
+ghost use Rattle.std.specs.Prelude.{◌≡◌, ℕ, ◌+◌, ◌*◌, ◌^◌, ◌<◌, ◌≤◌, ◌↔◌, unsigned_abs, IfOk, OnOk, OnErr, IsErrOf, IsTrue, []};
+ghost use Rattle.sp_defs.specs.Laurent.{coefficient, size, monomial, plus, times};
+ghost use Rattle.sp_defs.specs.Within.{PowersWithin, ProductWithin};
+ghost use Rattle.sp_laurent.specs.Held.{IsHeld, power_limit};
+
+use crate::sums::{is_within, push_term, with_product};
+use std::alloc::{AllocError, Global};
+use std::marker::Model;
+
+mod fault;
+mod sums;
+
+pub use fault::LaurentFault;
+
+/// Powers are at most this far from 0.
+pub const POWER_LIMIT: i32 = 1_000_000_000;
+
+/// A power of v, and its coefficient.
+type Term = (i32, i128);
+
+/// A Laurent polynomial: its terms are pairs of a power of v and the coefficient there, which isn't 0, in ascending
+/// order of powers.
+#[derive(Drop)]
+pub struct Laurent {
+    terms: Vec<(i32, i128)>,
+}
+
+impl Model for Laurent {
+    ghost use Rattle.std.specs.Prelude.{ℤ, List};
+    ghost use Rattle.sp_laurent.specs.Held.{IsHeld};
+
+    ghost Value = { List (ℤ × ℤ) };
+
+    ghost view = { λ a. a.terms.items };
+
+    ghost invariant = { λ a. IsHeld a.terms.items };
+}
+
+impl Laurent {
+    /// The polynomial 0. It takes no memory.
+    pub fn zero(alloc: Global) -> Laurent
+        ensures { result ≡ [] }
+    {
+        Laurent {
+            terms: Vec::new(alloc),
+        }
+    }
+
+    /// `coefficient * v^power`.
+    pub fn monomial(alloc: Global, coefficient: i128, power: i32) -> Result<Laurent, AllocError>
+        requires small { unsigned_abs coefficient < 2 ^ 127 }
+        requires within { unsigned_abs power ≤ power_limit }
+        ensures { IfOk result (λ p. p ≡ monomial power coefficient) }
+    {
+        let mut terms = Vec::new(alloc);
+        push_term(&mut terms, power, coefficient)?;
+        Ok(Laurent { terms })
+    }
+
+    fn is_zero(&self) -> bool
+        ensures { IsTrue result ↔ (self.now ≡ []) }
+    {
+        self.terms.is_empty()
+    }
+
+    /// The terms, strictly ascending by power.
+    pub fn terms(&self) -> &[(i32, i128)]
+        ensures value { result.now ≡ self.now }
+        ensures held { IsHeld self.now }
+    {
+        &self.terms
+    }
+
+    /// The coefficient of `v^power`.
+    pub fn coefficient(&self, power: i32) -> i128
+        ensures { result ≡ coefficient self.now power }
+    {
+        match self.terms.binary_search_by_key(&power, |term| term.0) {
+            Ok(place) => self.terms[place].1,
+            Err(_) => 0,
+        }
+    }
+
+    /// The sum of the absolute values of the coefficients.
+    pub fn size(&self) -> u128
+        ensures value { result ≡ size self.now }
+        ensures held { IsHeld self.now }
+    {
+        self.terms.iter().map(|term| term.1.unsigned_abs()).sum()
+    }
+
+    /// The same polynomial in memory of its own.
+    pub fn copy(&self, alloc: Global) -> Result<Laurent, AllocError>
+        ensures { IfOk result (λ p. p ≡ self.now) }
+    {
+        Ok(Laurent {
+            terms: Vec::from_slice(alloc, &self.terms)?,
+        })
+    }
+
+    /// Adds `a * b`. It is refused as too large where the size of this polynomial, and the product of the sizes of `a`
+    /// and `b`, sum up to more than the limit. After a refusal the polynomial is as before.
+    pub fn add_scaled(
+        &mut self,
+        alloc: Global,
+        a: &Laurent,
+        b: &Laurent,
+        limit: u128,
+    ) -> Result<(), LaurentFault>
+        requires least { 1 ≤ limit }
+        requires most { limit < 2 ^ 127 }
+        requires within { ProductWithin power_limit a.now b.now }
+        ensures ok { OnOk result (self.new ≡ plus self.old (times a.now b.now)) }
+        ensures too_large { IsErrOf result LaurentFault.TooLarge ↔ (limit < size self.old + size a.now * size b.now) }
+        ensures err { OnErr result (self.new ≡ self.old) }
+        ensures powers { (d : ℕ) → PowersWithin d self.old → ProductWithin d a.now b.now → PowersWithin d self.new }
+        ensures held { IsHeld self.new }
+    {
+        if !is_within(limit, self.size(), a.size(), b.size()) {
+            return Err(LaurentFault::TooLarge);
+        }
+        if a.is_zero() || b.is_zero() {
+            return Ok(());
+        }
+        self.terms = with_product(alloc, &self.terms, &a.terms, &b.terms)?;
+        Ok(())
+    }
+}

@@ -1,0 +1,7 @@
+use Rattle.sp_nodes.specs.Nodes.{pair}
+use Rattle.sp_nodes.specs.Rows.{gained}
+use Rattle.sp_nodes.proofs.Walks.{Walked}
+use Rattle.sp_nodes.proofs.corners.addable.Given as goal
+
+abbrev pub invariant-loop-row : goal.invariant-loop-row
+invariant-loop-row l = Walked pair (gained l.e l.i l.p) l.found.items l.row

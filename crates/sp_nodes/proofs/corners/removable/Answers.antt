@@ -1,0 +1,17 @@
+use Rattle.std.proofs.Common.{◌∙◌, arith}
+use Rattle.sp_nodes.specs.Nodes.{pair}
+use Rattle.sp_nodes.specs.Rows.{lost}
+use Rattle.sp_nodes.proofs.Walks.{walked_row, walked_all}
+use Rattle.sp_nodes.proofs.RowMarks.{lost_all}
+use Rattle.sp_nodes.proofs.corners.removable.Goals as goal
+
+pub loop-row-preserved : goal.loop-row-preserved
+loop-row-preserved c =
+    walked_row pair (lost c.args.e c.args.i c.args.p.now) c.loop-row.found.items c.push_if_some.new.found.items c.loop-row.row
+    c.removable_in_row.result (omega arith) c.removable_in_row.ensures c.push_if_some.ensures c.loop-row.invariant
+
+pub returns : goal.returns
+returns c =
+    walked_all pair (lost c.args.e c.args.i c.args.p.now) c.loop-row.found.items c.loop-row.row _ (omega arith)
+    c.loop-row.invariant
+    ∙ lost_all c.args.e c.args.i c.args.p.now

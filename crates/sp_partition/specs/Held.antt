@@ -1,0 +1,9 @@
+-- What each value of the type `Partition` is.
+use Rattle.std.specs.Prelude.{ℕ, ◌≤◌, List}
+use Rattle.sp_defs.specs.Partition.{degree, IsPartition}
+use Rattle.sp_partition.specs.declared.TheConstants.{CAPACITY}
+
+-- A partition that the type has room for.
+pub record IsHeld (parts : List ℕ) : Type 0 where
+  pub partition : IsPartition parts
+  pub small : degree parts ≤ CAPACITY

@@ -1,0 +1,4 @@
+pub mod Held
+pub mod Padded
+pub mod OrderLaws
+pub mod Runs

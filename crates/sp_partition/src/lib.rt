@@ -1,0 +1,14 @@
+//! Partitions of at most 32: their order, their nodes and their text.
+#![tactic(auto)]
+
+mod order;
+mod partition;
+mod text;
+
+pub use partition::{NotPartition, Partition};
+
+/// The greatest degree that the program's commands take.
+pub const DEGREE_LIMIT: u8 = 20;
+
+/// The greatest degree of a `Partition`, and so the greatest number of its parts.
+pub const CAPACITY: u8 = 32;
