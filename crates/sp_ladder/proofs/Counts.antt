@@ -14,7 +14,7 @@ use Rattle.std.proofs.Math.Nat.{mul-le-mul}
 use Rattle.sp_defs.specs.Partition.{degree, from_one_to}
 use Rattle.sp_partition.specs.Held.{IsHeld}
 use Rattle.sp_shapes.proofs.Diagram.{degree-nodes}
-use Rattle.sp_ladder_law.proofs.Dominance.{range_snoc}
+use Rattle.sp_lists.proofs.Elements.{range_snoc}
 use Rattle.std.proofs.lemmas.List.Elements.{filter-append}
 use Rattle.sp_defs.specs.Node.{Node, nodes, nodes_from}
 use Rattle.sp_defs.specs.Ladder.{ladder_of, on_ladder}

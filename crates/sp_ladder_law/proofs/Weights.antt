@@ -18,7 +18,8 @@ use Rattle.sp_shapes.proofs.Order.{all_mono}
 use Rattle.sp_shapes.proofs.Moves.{move_facts, degree_added}
 use Rattle.sp_shapes.proofs.Listing.{Occurs, all_partitions, each_partition}
 use Rattle.sp_ladder_law.proofs.Chains.{Reached, chain_step, positive_chain_sum}
-use Rattle.sp_ladder_law.proofs.LadderLaw.{reached, ladder_law}
+use Rattle.sp_ladder_law.proofs.Chains.{reached}
+use Rattle.sp_ladder_law.proofs.LadderLaw.{ladder_law}
 
 -- ---- degrees
 

@@ -11,7 +11,7 @@ use Rattle.sp_defs.specs.Power.{Entries, vector_of, entries, divided_power}
 use Rattle.sp_defs.specs.Signature.{Addable, Removable, Mark, row_marks, signature, add_node}
 use Rattle.sp_defs.specs.Within.{PowersWithin}
 use Rattle.sp_lists.proofs.Elements.{all_append, all_map, all_filter}
-use Rattle.sp_algebra.proofs.Sizes.{within_plus, within_times}
+use Rattle.sp_algebra.proofs.Sizes.{within_plus, within_times, product_within}
 use Rattle.sp_shapes.proofs.Degrees.{length-degree}
 use Rattle.sp_shapes.proofs.Order.{all_mono}
 use Rattle.sp_power_law.specs.Walk.{Reached, moves_through, moves}
@@ -130,7 +130,9 @@ near_sum b f (x ∷ xs) (h, hs) = within_plus b (f x) (sum_over xs f) h (near_su
 
 pub near_share : (far b : ℕ) (es : Entries) (t : Arrival) → unsigned_abs t.2 ≤ far →
     PowersWithin b (polynomial_at es t.1) → PowersWithin (far + b) (share_of es t)
-near_share far b es t h k = within_times far b (power t.2) (polynomial_at es t.1) (h, tt) k
+near_share far b es t h k =
+    within_times (far + b) (power t.2) (polynomial_at es t.1)
+    (product_within far b (far + b) (power t.2) (polynomial_at es t.1) (omega arith) (h, tt) k)
 
 pub near_power : (e i m n b : ℕ) (es : Entries) (nu : List ℕ) → 2 ≤ e → AllByRecursion (λ s. IsPartitionOf n s.0) es →
     entries n (vector_of es) ≡ es → AllByRecursion (λ s. PowersWithin b s.1) es → IsPartitionOf (n + m) nu →
