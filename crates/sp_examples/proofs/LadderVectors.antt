@@ -6,8 +6,8 @@ use Rattle.sp_defs.specs.Laurent.{Laurent, add_term, collect, plus, products, ti
 use Rattle.sp_defs.specs.Power.{Vector, is_move, exponent, sources, divided_power, unit}
 use Rattle.sp_defs.specs.Ladder.{on_ladder, ladders, steps, chains_to, chain_exponent, chain_sum, ladder_vector}
 
--- The coefficients of a vector at all partitions of n, ascending. At n = 5 these are
--- (1,1,1,1,1), (2,1,1,1), (2,2,1), (3,1,1), (3,2), (4,1) and (5).
+-- The coefficients of a vector at all partitions of n, ascending. At n = 5 these are (1,1,1,1,1), (2,1,1,1), (2,2,1),
+-- (3,1,1), (3,2), (4,1) and (5).
 unfoldable pub listed : ℕ → Vector → List Laurent
 listed n w = map w (partitions n)
 

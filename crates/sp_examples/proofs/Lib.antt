@@ -1,4 +1,5 @@
 pub mod Partitions
+pub mod Polynomials
 pub mod LadderVectors
 pub mod Rows
 pub mod Signatures

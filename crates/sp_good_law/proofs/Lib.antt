@@ -1,4 +1,5 @@
 pub mod RowRegular
+pub mod Marks
 pub mod GoodNodes
 pub mod CogoodNodes
 pub mod MoveLaw

@@ -1,4 +1,5 @@
--- Regularity by rows, and one node less.
+-- Regularity by rows: a partition is e-regular where each part that is not 0 is less than the part e - 1 rows above.
+-- And what one node less does to the rows and to regularity.
 use Rattle.std.proofs.Common.{◌≡◌, ◌≢◌, ℕ, zero, suc, ◌+◌, ◌-◌, ◌<◌, ◌≤◌, Bool, true, false, cond, nat_eq, nat_le}
 use Rattle.std.proofs.Common.{nat_lt, List, [], ◌∷◌, refl, sym, ap, subst, arith, count_by, slice_index, ◌⊎◌, inl, inr}
 use Rattle.std.proofs.Common.{eqb-true, ne_eqb, lt-ltb, leb-true, leb-false}
@@ -27,9 +28,11 @@ few_equal (x ∷ xs) p zero h lt =
 few_equal (x ∷ xs) p (suc k) h lt =
     omega (arith, at_most_one (nat_eq x p), count-cons p x xs, few_equal xs p k (IsPartition-tail x xs h) lt)
 
+-- each part that is not 0 is less than the part e - 1 rows above
 abbrev pub RowRegular : ℕ → List ℕ → Type 0
 RowRegular e xs = (i : ℕ) → 0 < slice_index xs (i + (e - 1)) → slice_index xs (i + (e - 1)) < slice_index xs i
 
+-- then fewer than e parts are p
 few : (e : ℕ) (xs : List ℕ) (p : ℕ) → 2 ≤ e → IsPartition xs → 0 < p → RowRegular e xs →
     count_by (λ q. nat_eq q p) xs < e
 few e [] p he h hp r = omega arith
@@ -62,6 +65,7 @@ few e (x ∷ xs) p he h hp r = settle (few e xs p he (IsPartition-tail x xs h) h
             (r 0 (subst (λ n. 0 < slice_index (x ∷ xs) n) (sym place) w)) in
             omega (arith, g, is)
 
+-- so the partition is e-regular
 pub rows_regular : (e : ℕ) (xs : List ℕ) → 2 ≤ e → IsPartition xs → RowRegular e xs → is_regular e xs ≡ true
 rows_regular e xs he h r = tests_all (λ p. nat_lt (count_by (λ q. nat_eq q p) xs) e) xs (each xs h)
   where
@@ -84,6 +88,7 @@ corner-tail x xs k h = subst (λ n. slice_index (x ∷ xs) n < slice_index xs k)
     moved : (k : ℕ) → suc k + 1 ≡ suc (k + 1)
     moved k = omega arith
 
+-- the other rows stay, and row k loses one
 pub shrink_other : (xs : List ℕ) (k j : ℕ) → IsPartition xs → Corner xs k → j ≢ k →
     slice_index (shrink k xs) j ≡ slice_index xs j
 unfolding shrink
@@ -145,7 +150,7 @@ IsPartition-shrink (x ∷ xs) (suc k) h c =
     low (inr w) =
         omega (arith, shrink_other xs k 0 (IsPartition-tail x xs h) (corner-tail x xs k c) (λ e. omega arith), d)
 
--- Taking the node at place k keeps regularity, unless the next e - 1 parts are all one less.
+-- a node less keeps regularity, unless the part e - 1 rows below is just one less
 pub shrink_regular : (e : ℕ) (xs : List ℕ) (k : ℕ) → 2 ≤ e → IsPartition xs → RowRegular e xs → Corner xs k →
     (0 < slice_index xs (k + (e - 1)) → slice_index xs (k + (e - 1)) + 1 ≢ slice_index xs k) →
     RowRegular e (shrink k xs)
@@ -161,6 +166,9 @@ shrink_regular e xs k he h r c ne i w =
     same : slice_index (shrink k xs) k + 1 ≡ slice_index xs k
     same = shrink_same xs k h c
 
+    untouched : i ≢ k → far ≢ k → slice_index (shrink k xs) far < slice_index (shrink k xs) i
+    untouched ni nf = omega (arith, other far nf, other i ni, r i (omega (arith, other far nf, w)))
+
     settle : (i ≤ k) ⊎ (k < i) → (k ≤ i) ⊎ (i < k) → (far ≤ k) ⊎ (k < far) → (k ≤ far) ⊎ (far < k) →
         slice_index (shrink k xs) far < slice_index (shrink k xs) i
     settle (inl a) (inl b) p q =
@@ -174,27 +182,9 @@ shrink_regular e xs k he h r c ne i w =
         let t : slice_index (shrink k xs) i + 1 ≡ slice_index xs i =
         subst (λ z. slice_index (shrink k xs) z + 1 ≡ slice_index xs z) (sym s) same in
         omega (arith, o, g, n, t)
-    settle (inr a) b p q =
-        omega (
-          arith,
-          other far (λ z. omega arith),
-          other i (λ z. omega arith),
-          r i (omega (arith, other far (λ z. omega arith), w)),
-        )
-    settle (inl a) (inr b) (inr p) q =
-        omega (
-          arith,
-          other far (λ z. omega arith),
-          other i (λ z. omega arith),
-          r i (omega (arith, other far (λ z. omega arith), w)),
-        )
-    settle (inl a) (inr b) (inl p) (inr q) =
-        omega (
-          arith,
-          other far (λ z. omega arith),
-          other i (λ z. omega arith),
-          r i (omega (arith, other far (λ z. omega arith), w)),
-        )
+    settle (inr a) b p q = untouched (λ z. omega arith) (λ z. omega arith)
+    settle (inl a) (inr b) (inr p) q = untouched (λ z. omega arith) (λ z. omega arith)
+    settle (inl a) (inr b) (inl p) (inr q) = untouched (λ z. omega arith) (λ z. omega arith)
     settle (inl a) (inr b) (inl p) (inl q) =
         let s : far ≡ k = omega arith in
         let t : slice_index (shrink k xs) far + 1 ≡ slice_index xs far =

@@ -127,8 +127,7 @@ module _ (e L : ℕ) where
   high-nil r = refl
 
   -- The first k sums and the counts from L on exchange: where no place of the first k rows right of ys is before L,
-  -- what xs
-  -- has more of in these rows it has on ladders from L on.
+  -- what xs has more of in these rows it has on ladders from L on.
   sums_exchange : (k r : ℕ) (xs ys : List ℕ) → ((j : ℕ) → j < k → L ≤ r + j + (e - 1) * slice_index ys j) →
       sum (take k xs) + high_from r (take k ys) ≤ sum (take k ys) + high_from r (take k xs)
   sums_exchange zero r xs ys f = omega arith
@@ -208,8 +207,7 @@ module _ (e L : ℕ) where
       next j c h = omega arith
 
 -- For a row number k take the least ladder of the first places right of mu in the rows up to k: from it on, mu has no
--- node
--- below row k, so its counts bound those of lambda's first rows, and the sums follow.
+-- node below row k, so its counts bound those of lambda's first rows, and the sums follow.
 pub dominated : (e : ℕ) (mu lambda : List ℕ) → 2 ≤ e → IsPartition mu → is_regular e mu ≡ true →
     degree mu ≡ degree lambda → ((L : ℕ) → high_from e L 1 lambda ≤ high_from e L 1 mu) → Dominates mu lambda
 dominated e mu lambda he pm reg deg counts = record { one_degree = deg; sums = λ k. at k }

@@ -50,9 +50,8 @@ module _ (e : ℕ) (he : 2 ≤ e) (mu : List ℕ) (pm : IsPartition mu) (reg : i
   -- ---- no addable node of the next cut
 
   -- A node added by ladder n + 1 has no addable node of its residue above it. The addable node's left or upper
-  -- neighbour
-  -- is in the cut, so its ladder is less than e past n + 1; having the residue, it is at most n + 1. In mu such a node
-  -- would be in the cut, and outside mu it would stand on a later ladder.
+  -- neighbour is in the cut, so its ladder is less than e past n + 1; having the residue, it is at most n + 1. In mu
+  -- such a node would be in the cut, and outside mu it would stand on a later ladder.
   no_addable : (n r c : ℕ) → 1 ≤ r → 1 ≤ c → c ≤ part mu r → ladder_of e (r, c) ≡ suc n → (y : Node) →
       is_addable (upto e he mu pm (suc n)) y ≡ true → residue e y ≡ ladder_residue e (suc n) → y.0 < r → ⊥
   no_addable n r c hr hc w on (s, d) h same lt = by_neighbours facts.left facts.up

@@ -2,11 +2,16 @@
 use Rattle.std.proofs.Common.{◌≡◌, ℕ, ◌+◌, ◌-◌, ◌<◌, ◌≤◌, Bool, true, false, not, ◌&&◌, ◌||◌, nat_eq, List, refl, sym}
 use Rattle.std.proofs.Common.{ap, arith, ◌⊎◌, inl, inr, eqb-true, eq-eqb}
 use Rattle.std.proofs.lemmas.Bool.{or_left, or_right}
+use Rattle.std.proofs.Common.{suc, slice_index}
 use Rattle.sp_defs.specs.Partition.{part}
 use Rattle.sp_defs.specs.Node.{in_diagram, is_addable, is_removable}
 use Rattle.sp_lists.proofs.Elements.{and_split, and_join, or_split, le_or_lt}
 use Rattle.sp_shapes.proofs.Diagram.{in_node, node_in, node_out}
 use Rattle.sp_shapes.proofs.Moves.{out_node}
+
+-- row r of the diagram is place k of the list
+pub part_is : (parts : List ℕ) (r k : ℕ) → r ≡ suc k → part parts r ≡ slice_index parts k
+part_is parts r k e = let back : r - 1 ≡ k = omega arith in ap (slice_index parts) back
 
 not_true : (b : Bool) → not b ≡ true → b ≡ false
 not_true true h = sym h
