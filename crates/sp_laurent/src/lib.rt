@@ -145,3 +145,6 @@ impl Laurent {
         printed
     }
 }
+
+#[cfg(test)]
+mod tests;
