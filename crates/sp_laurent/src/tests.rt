@@ -8,7 +8,10 @@ fn adds_and_prints(rt: HostRuntime) -> Result<(), Fail> {
     let alloc = rt.alloc();
     let v = Laurent::monomial(alloc, 1, 1)?;
     let mut sum = Laurent::monomial(alloc, 1, 0)?;
-    assert_eq!(rt; sum.add_scaled(alloc, &v, &v, 1), Err(LaurentFault::TooLarge));
+    assert_eq!(rt;
+        sum.add_scaled(alloc, &v, &v, 1),
+        Err(LaurentFault::TooLarge)
+    );
     assert_eq!(rt; sum.terms(), [(0, 1)].as_slice());
     assert_eq!(rt; sum.add_scaled(alloc, &v, &v, 2), Ok(()));
     assert_eq!(rt; sum.terms(), [(0, 1), (2, 1)].as_slice());

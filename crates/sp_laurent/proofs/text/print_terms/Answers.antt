@@ -4,7 +4,8 @@ use Rattle.sp_laurent.proofs.text.print_terms.Goals as goal
 
 pub returns-in_default-clause-ok : goal.returns-in_default-clause-ok
 returns-in_default-clause-ok c =
-    c.in_ok-push.ensures.items ∙ ap (λ t. c.args.out.now.items ++ t) (sym (no_text c.args.terms.now c.in_default.len_below))
+    c.in_ok-push.ensures.items ∙ ap (λ t. c.args.out.now.items ++ t)
+    (sym (no_text c.args.terms.now c.in_default.len_below))
 
 pub returns-clause-ok : goal.returns-clause-ok
 returns-clause-ok c =
