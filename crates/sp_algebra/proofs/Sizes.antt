@@ -1,5 +1,6 @@
 -- The size of a sum, a product and a monomial, and how far their powers lie from 0.
-use Rattle.std.proofs.Common.{◌≡◌, ℕ, zero, suc, ◌+◌, ◌*◌, ◌<◌, ◌≤◌, length, get_or, true, false, cond, [], ◌∷◌, ◌++◌, map, sym, ap, subst, arith, ℤ, pos, ◌+ℤ◌, ◌*ℤ◌, Less, Equal, Greater, int_cmp, int_eq}
+use Rattle.std.proofs.Common.{◌≡◌, ℕ, zero, suc, ◌+◌, ◌*◌, ◌<◌, ◌≤◌, length, get_or, true, false, cond, [], ◌∷◌, ◌++◌}
+use Rattle.std.proofs.Common.{map, sym, ap, subst, arith, ℤ, pos, ◌+ℤ◌, ◌*ℤ◌, Less, Equal, Greater, int_cmp, int_eq}
 use Rattle.std.proofs.lemmas.Int.{ints, unsigned_abs-mul}
 use Rattle.std.proofs.lemmas.List.Sums.{sum_by-append, sum_by-cons}
 use Rattle.std.specs.Int.RustNames.{unsigned_abs}
@@ -30,7 +31,8 @@ size_add_term : (k c : ℤ) (p : Laurent) → size (add_term k c p) ≤ unsigned
 unfolding add_term
 size_add_term k c [] = omega (arith, size-put k c [])
 size_add_term k c ((j, d) ∷ p) =
-    elim (int_cmp k j) as (λ o. size (placed o (k, c) (j, d) p (add_term k c p)) ≤ unsigned_abs c + size ((j, d) ∷ p)) [
+    elim (int_cmp k j) as (λ o. size (placed o (k, c) (j, d) p (add_term k c p)) 
+        ≤ unsigned_abs c + size ((j, d) ∷ p)) [
       | Less ↦ omega (arith, size-put k c ((j, d) ∷ p))
       | Equal ↦ omega (arith, ints, size-put k (c +ℤ d) p, size-cons j d p)
       | Greater ↦ omega (arith, size-cons j d (add_term k c p), size-cons j d p, size_add_term k c p)
@@ -80,11 +82,16 @@ coefficient_le ((k, c) ∷ p) (suc i) d lt = omega (arith, size-cons k c p, coef
 
 -- ---- powers: each operation keeps what is true of every power
 
-within_put : (P : ℤ → Type 0) (k c : ℤ) (p : Laurent) → P k → AllByRecursion (λ t. P t.0) p → AllByRecursion (λ t. P t.0) (put k c p)
+within_put : (P : ℤ → Type 0) (k c : ℤ) (p : Laurent) → P k → AllByRecursion (λ t. P t.0) p
+    → AllByRecursion (λ t. P t.0) (put k c p)
 within_put P k c p h all =
-    elim (int_eq c (pos 0)) as (λ b. AllByRecursion (λ t. P t.0) (cond b p ((k, c) ∷ p))) [ true ↦ all | false ↦ (h, all) ]
+    elim (int_eq c (pos 0)) as (λ b. AllByRecursion (λ t. P t.0) (cond b p ((k, c) ∷ p))) [
+      | true ↦ all
+      | false ↦ (h, all)
+    ]
 
-within_add_term : (P : ℤ → Type 0) (k c : ℤ) (p : Laurent) → P k → AllByRecursion (λ t. P t.0) p → AllByRecursion (λ t. P t.0) (add_term k c p)
+within_add_term : (P : ℤ → Type 0) (k c : ℤ) (p : Laurent) → P k → AllByRecursion (λ t. P t.0) p
+    → AllByRecursion (λ t. P t.0) (add_term k c p)
 unfolding add_term
 within_add_term P k c [] h all = within_put P k c [] h tt
 within_add_term P k c ((j, d) ∷ p) h (hj, all) =
@@ -95,13 +102,15 @@ within_add_term P k c ((j, d) ∷ p) h (hj, all) =
     ]
 
 -- a power of a collection is one of the terms
-pub powers_collect : (P : ℤ → Type 0) (ts : Laurent) → AllByRecursion (λ t. P t.0) ts → AllByRecursion (λ t. P t.0) (collect ts)
+pub powers_collect : (P : ℤ → Type 0) (ts : Laurent) → AllByRecursion (λ t. P t.0) ts
+    → AllByRecursion (λ t. P t.0) (collect ts)
 unfolding collect
 powers_collect P [] all = tt
 powers_collect P ((k, c) ∷ ts) (h, all) = within_add_term P k c (collect ts) h (powers_collect P ts all)
 
 -- a power of a sum is one of the two
-pub powers_plus : (P : ℤ → Type 0) (p q : Laurent) → AllByRecursion (λ t. P t.0) p → AllByRecursion (λ t. P t.0) q → AllByRecursion (λ t. P t.0) (plus p q)
+pub powers_plus : (P : ℤ → Type 0) (p q : Laurent) → AllByRecursion (λ t. P t.0) p → AllByRecursion (λ t. P t.0) q
+    → AllByRecursion (λ t. P t.0) (plus p q)
 unfolding plus
 powers_plus P p q hp hq = powers_collect P (p ++ q) (all_append (λ t. P t.0) p q hp hq)
 
@@ -131,15 +140,18 @@ sums_within x y d k [] le hk hq = tt
 sums_within x y d k ((j, c) ∷ q) le hk (hj, hq) = (omega (arith, ints), sums_within x y d k q le hk hq)
 
 -- bounds on the two polynomials add up
-pub product_within : (x y d : ℕ) (p q : Laurent) → x + y ≤ d → PowersWithin x p → PowersWithin y q → ProductWithin d p q
+pub product_within : (x y d : ℕ) (p q : Laurent) → x + y ≤ d → PowersWithin x p → PowersWithin y q
+    → ProductWithin d p q
 product_within x y d [] q le hp hq = tt
-product_within x y d ((k, c) ∷ p) q le (hk, hp) hq = (sums_within x y d k q le hk hq, product_within x y d p q le hp hq)
+product_within x y d ((k, c) ∷ p) q le (hk, hp) hq =
+    (sums_within x y d k q le hk hq, product_within x y d p q le hp hq)
 
 pub product_within_more : (d e : ℕ) (p q : Laurent) → d ≤ e → ProductWithin d p q → ProductWithin e p q
 product_within_more d e [] q le h = tt
 product_within_more d e ((k, c) ∷ p) q le (h, hs) = (more q h, product_within_more d e p q le hs)
   where
-    more : (q : Laurent) → AllByRecursion (λ t. unsigned_abs (k +ℤ t.0) ≤ d) q → AllByRecursion (λ t. unsigned_abs (k +ℤ t.0) ≤ e) q
+    more : (q : Laurent) → AllByRecursion (λ t. unsigned_abs (k +ℤ t.0) ≤ d) q
+        → AllByRecursion (λ t. unsigned_abs (k +ℤ t.0) ≤ e) q
     more [] h = tt
     more ((j, b) ∷ q) (h, hs) = (omega arith, more q hs)
 

@@ -1,5 +1,6 @@
 -- Which lists of terms the code may hold.
-use Rattle.std.proofs.Common.{◌≡◌, ◌≢◌, ◌+◌, ◌*◌, ◌⊎◌, inl, inr, ◌∙◌, ap, cond, ◌^◌, ◌<◌, ◌≤◌, [], ◌∷◌, refl, sym, subst, arith, ℤ, pos}
+use Rattle.std.proofs.Common.{◌≡◌, ◌≢◌, ◌+◌, ◌*◌, ◌⊎◌, inl, inr, ◌∙◌, ap, cond, ◌^◌, ◌<◌, ◌≤◌, [], ◌∷◌, refl, sym}
+use Rattle.std.proofs.Common.{subst, arith, ℤ, pos}
 use Rattle.std.specs.Int.RustNames.{unsigned_abs}
 use Rattle.sp_defs.specs.Laurent.{Laurent, Term, IsLaurent, add_term, collect, monomial, plus, times, size}
 use Rattle.sp_algebra.proofs.Coefficients.{by_eq, IsLaurent-collect}
@@ -36,7 +37,8 @@ one_term k c ne =
 pub held_term : (k c : ℤ) → c ≢ pos 0 → unsigned_abs c < 2 ^ 127 → unsigned_abs k ≤ power_limit → IsHeld ((k, c) ∷ [])
 held_term k c ne small within = subst IsHeld (one_term k c ne) (held_monomial k c small within)
 
-pub held_sum : (p a b : Laurent) → IsHeld p → size p + size a * size b < 2 ^ 127 → ProductWithin power_limit a b → IsHeld (plus p (times a b))
+pub held_sum : (p a b : Laurent) → IsHeld p → size p + size a * size b < 2 ^ 127 → ProductWithin power_limit a b
+    → IsHeld (plus p (times a b))
 held_sum p a b held small within = record {
   laurent = IsLaurent-plus p (times a b);
   small = omega (arith, size_plus p (times a b), size_times a b);

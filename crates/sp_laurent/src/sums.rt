@@ -1,5 +1,6 @@
 //! Sums of ascending lists of terms.
-ghost use Rattle.std.specs.Prelude.{◌≡◌, ◌+◌, ◌*◌, ◌^◌, ◌<◌, ◌≤◌, unsigned_abs, IfOk, OnOk, IsTrue, ◌↔◌, [], ◌∷◌, ◌++◌, ◌<ℤ◌, ◌≤ℤ◌};
+ghost use Rattle.std.specs.Prelude.{◌≡◌, ◌+◌, ◌*◌, ◌^◌, ◌<◌, ◌≤◌, unsigned_abs, IfOk, OnOk, IsTrue, ◌↔◌, [], ◌∷◌};
+ghost use Rattle.std.specs.Prelude.{◌++◌, ◌<ℤ◌, ◌≤ℤ◌};
 ghost use Rattle.std.specs.List.{AllByRecursion};
 ghost use Rattle.sp_defs.specs.Laurent.{IsLaurent, size, monomial, add_term, plus, times};
 ghost use Rattle.sp_defs.specs.Within.{ProductWithin};
@@ -72,8 +73,10 @@ fn merge_term<'a>(
 ) -> Result<&'a [Term], AllocError>
     requires laurent { IsLaurent terms.now }
     requires fits { size terms.now + unsigned_abs coefficient < 2 ^ 127 }
-    ensures joined { IfOk result (λ rest. sum.new.items ++ rest.now ≡ sum.old.items ++ add_term power coefficient terms.now) }
-    ensures low { OnOk result (AllByRecursion (λ t. t.0 <ℤ power) sum.old.items → AllByRecursion (λ t. t.0 ≤ℤ power) sum.new.items) }
+    ensures joined { IfOk result (λ rest.
+        sum.new.items ++ rest.now ≡ sum.old.items ++ add_term power coefficient terms.now) }
+    ensures low { OnOk result (AllByRecursion (λ t. t.0 <ℤ power) sum.old.items
+        → AllByRecursion (λ t. t.0 ≤ℤ power) sum.new.items) }
     ensures smaller { IfOk result (λ rest. size rest.now ≤ size terms.now) }
 {
     let (below, others) = split_below(terms, power);
