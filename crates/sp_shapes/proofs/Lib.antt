@@ -6,3 +6,4 @@ pub mod Residues
 pub mod Regular
 pub mod Degrees
 pub mod Corners
+pub mod Columns
