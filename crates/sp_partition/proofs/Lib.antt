@@ -3,3 +3,5 @@ pub mod Holding
 pub mod Growing
 pub mod Shrinking
 pub mod Regularity
+pub mod Runs
+pub mod Kept

@@ -1,3 +1,4 @@
 pub mod Held
 pub mod Padded
 pub mod OrderLaws
+pub mod Runs

@@ -3,6 +3,7 @@
 
 mod order;
 mod partition;
+mod text;
 
 pub use partition::{NotPartition, Partition};
 
