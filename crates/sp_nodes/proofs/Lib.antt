@@ -1,2 +1,5 @@
 pub mod Walks
 pub mod RowMarks
+pub mod Hooks
+pub mod NodeLists
+pub mod Tallies

@@ -4,10 +4,12 @@
 #![tactic(auto)]
 
 mod corners;
+mod diagram;
 mod node;
 mod rows;
 
 pub use corners::{addable, marks, removable, Corner, Mark};
+pub use diagram::{content, hook, nodes};
 pub use node::{residue, Node};
 
 #[cfg(test)]

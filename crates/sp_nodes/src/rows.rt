@@ -2,6 +2,7 @@
 ghost use Rattle.std.specs.Prelude.{◌≡◌, ◌+◌, ◌<◌, ◌≤◌, length};
 ghost use Rattle.sp_defs.specs.Partition.{part as part_of};
 ghost use Rattle.sp_defs.specs.Node.{is_addable, is_removable};
+ghost use Rattle.sp_partition.specs.Held.{IsHeld};
 
 use sp_partition::Partition;
 
@@ -10,6 +11,7 @@ use sp_partition::Partition;
 pub(crate) fn row_count(p: &Partition) -> u8
     ensures value { result ≡ length p.now }
     ensures small { result ≤ 32 }
+    ensures held { IsHeld p.now }
 {
     p.parts().len() as u8
 }

@@ -1,8 +1,9 @@
 -- Addable and removable nodes, and marks, row by row.
 use Rattle.std.proofs.Common.{◌≡◌, ◌≢◌, ℕ, zero, suc, ◌+◌, ◌-◌, ◌<◌, ◌≤◌, Bool, true, false, cond, ◌&&◌, not, nat_le, nat_eq}
-use Rattle.std.proofs.Common.{List, [], ◌∷◌, ◌++◌, map, filter, length, slice_index, refl, sym, ◌∙◌, ap, ap₂, subst, arith, add-one}
+use Rattle.std.proofs.Common.{List, [], ◌∷◌, ◌++◌, map, filter, flat_map, length, slice_index, refl, sym, ◌∙◌, ap, ap₂, subst, arith, add-one}
 use Rattle.std.specs.List.{AllByRecursion, range_with_len}
 use Rattle.std.proofs.lemmas.Bool.Decides.{nat_tests}
+use Rattle.std.proofs.lemmas.List.Concat.{flat_map-cons}
 use Rattle.std.proofs.lemmas.List.FromFn.{map-range_with_len_more}
 use Rattle.sp_defs.specs.Partition.{part, from_one_to}
 use Rattle.sp_defs.specs.Node.{Node, in_diagram, is_removable, nodes_from, nodes, removable}
@@ -62,3 +63,23 @@ removable_from parts r (p ∷ rest) row is =
 pub removable-rows : (parts : List ℕ) →
     removable parts ≡ filter (is_removable parts) (map (λ r. (r, part parts r)) (from_one_to (length parts)))
 removable-rows parts = removable_from parts 1 parts (omega arith) (λ k lt. ap (slice_index parts) (omega arith))
+
+-- ---- the nodes, row by row
+
+nodes_rows_from : (parts : List ℕ) (r : ℕ) (rest : List ℕ)
+    → ((k : ℕ) → k < length rest → slice_index rest k ≡ part parts (r + k))
+    → nodes_from r rest ≡ flat_map (λ q. map (λ c. (q, c)) (from_one_to (part parts q))) (range_with_len r (length rest))
+unfolding nodes_from
+nodes_rows_from parts r [] is = refl
+nodes_rows_from parts r (p ∷ rest) is =
+    ap₂ (λ n xs. map (λ c. (r, c)) (from_one_to n) ++ xs) (is 0 (omega arith) ∙ ap (part parts) (omega arith))
+    (nodes_rows_from parts (suc r) rest (λ k lt. is (suc k) (omega arith) ∙ ap (part parts) (omega arith)))
+    ∙ ap (λ next. row r ++ flat_map row (range_with_len next (length rest))) (sym (add-one r))
+    ∙ sym (flat_map-cons row r (range_with_len (r + 1) (length rest)))
+  where
+    row : ℕ → List Node
+    row q = map (λ c. (q, c)) (from_one_to (part parts q))
+
+pub nodes-rows : (parts : List ℕ) →
+    nodes parts ≡ flat_map (λ r. map (λ c. (r, c)) (from_one_to (part parts r))) (from_one_to (length parts))
+nodes-rows parts = nodes_rows_from parts 1 parts (λ k lt. ap (slice_index parts) (omega arith))

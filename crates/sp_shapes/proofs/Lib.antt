@@ -10,3 +10,4 @@ pub mod Degrees
 pub mod Before
 pub mod Corners
 pub mod CornerRows
+pub mod Columns
