@@ -9,7 +9,7 @@ use Rattle.std.proofs.lemmas.List.Sums.{sum_by_more, sum_by_more_le}
 use Rattle.sp_defs.specs.Partition.{part, from_one_to}
 use Rattle.sp_defs.specs.Node.{nodes}
 use Rattle.sp_lists.proofs.FlatMaps.{flat_map-range_more}
-use Rattle.sp_shapes.proofs.Corners.{nodes-rows}
+use Rattle.sp_shapes.proofs.CornerRows.{nodes-rows}
 use Rattle.sp_partition.specs.Held.{IsHeld}
 use Rattle.sp_nodes.specs.declared.node.Node.{Node}
 use Rattle.sp_nodes.specs.Nodes.{pair, IsPlace}
