@@ -48,12 +48,6 @@ map-alike : {X Y : Type 0} (f g : X → Y) (xs : List X) → AllByRecursion (λ 
 map-alike f g [] h = refl
 map-alike f g (x ∷ xs) (h, hs) = ap₂ (λ a b. a ∷ b) h (map-alike f g xs hs)
 
-pub entries-alike : (n : ℕ) (v w : Vector) → ((lambda : List ℕ) → IsPartitionOf n lambda → v lambda ≡ w lambda) →
-    entries n v ≡ entries n w
-entries-alike n v w same =
-    ap (filter (λ t. nat_lt 0 (length t.1))) (map-alike (λ parts. (parts, v parts)) (λ parts. (parts, w parts)) (partitions n)
-    (all_mono (IsPartitionOf n) (λ x. (x, v x) ≡ (x, w x)) (partitions n) (λ x h. ap (λ p. (x, p)) (same x h)) (all_partitions n)))
-
 sum_by-alike : {X : Type 0} (f g : X → ℕ) (xs : List X) → AllByRecursion (λ x. f x ≡ g x) xs → sum_by f xs ≡ sum_by g xs
 sum_by-alike f g [] h = refl
 sum_by-alike f g (x ∷ xs) (h, hs) =
