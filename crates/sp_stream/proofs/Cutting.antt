@@ -27,7 +27,7 @@ one_line_before (b ∷ bs) =
       | true ↦ λ e. tt
       | false ↦ λ e.
           let here : take (1 + position_or_len is_newline bs) (b ∷ bs) ≡ b ∷ before_first is_newline bs =
-              grind (arith, common_steps) in
+          grind (arith, common_steps) in
           subst IsOneLine (sym here) (other_is b e, one_line_before bs)
     ] refl
 
@@ -38,11 +38,11 @@ pub first_newline : (bs : List ℕ) (place : Option ℕ) → place ≡ position 
 first_newline bs place is =
     let at = position_or_len is_newline bs in
     subst (λ (r : Option ℕ). MatchOption r (IsOneLine bs)
-        (λ i. IsOneLine (take i bs) × (bs ≡ take i bs ++ NEWLINE ∷ drop (i + 1) bs))) (sym is)
+    (λ i. IsOneLine (take i bs) × (bs ≡ take i bs ++ NEWLINE ∷ drop (i + 1) bs))) (sym is)
     (elim (ltb at (length bs)) as
     (λ v. ltb at (length bs) ≡ v →
-        MatchOption (cond v (Some at) None) (IsOneLine bs)
-        (λ i. IsOneLine (take i bs) × (bs ≡ take i bs ++ NEWLINE ∷ drop (i + 1) bs))) [
+    MatchOption (cond v (Some at) None) (IsOneLine bs)
+    (λ i. IsOneLine (take i bs) × (bs ≡ take i bs ++ NEWLINE ∷ drop (i + 1) bs))) [
       | true ↦ λ e. (one_line_before bs, split_there bs e)
       | false ↦ λ e. subst IsOneLine (all_before bs e) (one_line_before bs)
     ] refl)
@@ -98,7 +98,7 @@ unfolding whole_lines begun_line
 whole_lines-append [] ys = refl
 whole_lines-append (b ∷ bs) ys =
     elim (is_newline b) as (λ v. is_newline b ≡ v →
-        whole_lines (b ∷ (bs ++ ys)) ≡ whole_lines (b ∷ bs) ++ whole_lines (begun_line (b ∷ bs) ++ ys)) [
+    whole_lines (b ∷ (bs ++ ys)) ≡ whole_lines (b ∷ bs) ++ whole_lines (begun_line (b ∷ bs) ++ ys)) [
       | true ↦ λ e.
           whole_lines-newline b (bs ++ ys) e ∙ ap (λ ls. [] ∷ ls) (whole_lines-append bs ys) ∙
           ap (λ t. [] ∷ (whole_lines bs ++ whole_lines (t ++ ys))) (sym (begun_line-newline b bs e)) ∙
@@ -125,7 +125,7 @@ unfolding begun_line
 begun_line-append [] ys = refl
 begun_line-append (b ∷ bs) ys =
     elim (is_newline b) as (λ v. is_newline b ≡ v →
-        begun_line (b ∷ (bs ++ ys)) ≡ begun_line (begun_line (b ∷ bs) ++ ys)) [
+    begun_line (b ∷ (bs ++ ys)) ≡ begun_line (begun_line (b ∷ bs) ++ ys)) [
       | true ↦ λ e.
           begun_line-newline b (bs ++ ys) e ∙ begun_line-append bs ys ∙
           ap (λ t. begun_line (t ++ ys)) (sym (begun_line-newline b bs e))
@@ -138,7 +138,7 @@ begun_line-append (b ∷ bs) ys =
     other b bs ys e [] none below = ap (λ t. begun_line (t ++ ys)) (sym (begun_line-alone b bs e none))
     other b bs ys e (line ∷ lines) some below =
         let more : line ∷ (lines ++ whole_lines (begun_line bs ++ ys)) ≡ whole_lines (bs ++ ys) =
-            ap (λ ls. ls ++ whole_lines (begun_line bs ++ ys)) some ∙ sym (whole_lines-append bs ys) in
+        ap (λ ls. ls ++ whole_lines (begun_line bs ++ ys)) some ∙ sym (whole_lines-append bs ys) in
         begun_line-behind b (bs ++ ys) line (lines ++ whole_lines (begun_line bs ++ ys)) e more ∙ below ∙
         ap (λ t. begun_line (t ++ ys)) (sym (begun_line-behind b bs line lines e some))
 

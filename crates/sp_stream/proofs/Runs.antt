@@ -64,10 +64,10 @@ module _ {Sink : Type 0} (written : Sink → Option (List ℕ)) (steady : Sink �
   taken_more sink next now_rules state last pending rest into mid_left now_left taken n behind same has hands bound
       feeds =
       let here : Feeds written steady faults sink next rules state last rest (pending ++ take n (drop taken input)) =
-          subst (λ (t : List ℕ). Feeds written steady faults sink next rules state last rest (pending ++ t))
-          (take-append-le n into behind bound ∙ hands.bytes)
-          (subst (λ (r : Rules State). Feeds written steady faults sink next r state last rest
-              (pending ++ take n (into ++ behind))) same feeds) in
+      subst (λ (t : List ℕ). Feeds written steady faults sink next rules state last rest (pending ++ t))
+      (take-append-le n into behind bound ∙ hands.bytes)
+      (subst (λ (r : Rules State). Feeds written steady faults sink next r state last rest
+      (pending ++ take n (into ++ behind))) same feeds) in
       record {
         left = hands.left ∙ ap (λ t. Some t) (drop-drop n taken input);
         few = omega (arith, has.few, hands.few, length-drop taken input);
@@ -82,16 +82,16 @@ module _ {Sink : Type 0} (written : Sink → Option (List ℕ)) (steady : Sink �
       (mid_left now_left : Option (List ℕ)) (taken n : ℕ) (behind : List ℕ) (stop : Stop) → now_rules ≡ rules →
       HasTaken sink state pending mid_left taken → Hands (drop taken input) now_left into n → n ≤ length into →
       ((more : List ℕ) → Stops written steady faults sink new
-          (texts_of now_rules state (pending ++ (take n (into ++ behind) ++ more))) stop) →
+      (texts_of now_rules state (pending ++ (take n (into ++ behind) ++ more))) stop) →
       Stops written steady faults start new (texts_of rules first input) stop
   taken_stops sink new now_rules state pending into mid_left now_left taken n behind stop same has hands bound stops =
       let left = drop taken input in
       let bytes : take n (into ++ behind) ++ drop n left ≡ left =
-          ap (λ t. t ++ drop n left) (take-append-le n into behind bound ∙ hands.bytes) ∙ take-append-drop n left in
+      ap (λ t. t ++ drop n left) (take-append-le n into behind bound ∙ hands.bytes) ∙ take-append-drop n left in
       let here : Stops written steady faults sink new (texts_of rules state (pending ++ left)) stop =
-          subst (λ (t : List ℕ). Stops written steady faults sink new (texts_of rules state (pending ++ t)) stop) bytes
-          (subst (λ (r : Rules State). Stops written steady faults sink new
-              (texts_of r state (pending ++ (take n (into ++ behind) ++ drop n left))) stop) same (stops (drop n left))) in
+      subst (λ (t : List ℕ). Stops written steady faults sink new (texts_of rules state (pending ++ t)) stop) bytes
+      (subst (λ (r : Rules State). Stops written steady faults sink new
+      (texts_of r state (pending ++ (take n (into ++ behind) ++ drop n left))) stop) same (stops (drop n left))) in
       subst (λ (t : List ℕ). Stops written steady faults start new (texts_of rules first t) stop)
       (take-append-drop taken input)
       (feeds_stops written steady faults rules start sink new first state pending (take taken input) left stop
@@ -103,8 +103,8 @@ module _ {Sink : Type 0} (written : Sink → Option (List ℕ)) (steady : Sink �
       (taken ≡ length input) × Feeds written steady faults start sink rules first state pending input
   all_taken sink state pending now_left taken has none =
       let whole : take taken input ≡ input =
-          sym (append-nil (take taken input)) ∙ ap (λ t. take taken input ++ t) (sym none) ∙
-          take-append-drop taken input in (
+      sym (append-nil (take taken input)) ∙ ap (λ t. take taken input ++ t) (sym none) ∙
+      take-append-drop taken input in (
         omega (arith, has.few, length-drop taken input, ap length none),
         subst (λ (t : List ℕ). Feeds written steady faults start sink rules first state pending t) whole has.feeds,
       )
@@ -115,9 +115,9 @@ module _ {Sink : Type 0} (written : Sink → Option (List ℕ)) (steady : Sink �
       Puts written steady faults start new (transcript rules first input)
   end_puts sink new now_rules state pending last same feeds last_is puts =
       let here : Puts written steady faults sink new (transcript rules state (pending ++ [])) =
-          subst (λ (t : List ℕ). Puts written steady faults sink new (transcript rules state t))
-          (last_is ∙ sym (append-nil pending))
-          (subst (λ (r : Rules State). Puts written steady faults sink new (transcript r state last)) same puts) in
+      subst (λ (t : List ℕ). Puts written steady faults sink new (transcript rules state t))
+      (last_is ∙ sym (append-nil pending))
+      (subst (λ (r : Rules State). Puts written steady faults sink new (transcript r state last)) same puts) in
       subst (λ (t : List ℕ). Puts written steady faults start new (transcript rules first t)) (append-nil input)
       (feeds_puts written steady faults rules start sink new first state pending input [] feeds here)
 
@@ -127,9 +127,9 @@ module _ {Sink : Type 0} (written : Sink → Option (List ℕ)) (steady : Sink �
       Stops written steady faults start new (texts_of rules first input) stop
   end_stops sink new now_rules state pending last stop same feeds last_is stops =
       let here : Stops written steady faults sink new (texts_of rules state (pending ++ [])) stop =
-          subst (λ (t : List ℕ). Stops written steady faults sink new (texts_of rules state t) stop)
-          (last_is ∙ sym (append-nil pending))
-          (subst (λ (r : Rules State). Stops written steady faults sink new (texts_of r state last) stop) same stops) in
+      subst (λ (t : List ℕ). Stops written steady faults sink new (texts_of rules state t) stop)
+      (last_is ∙ sym (append-nil pending))
+      (subst (λ (r : Rules State). Stops written steady faults sink new (texts_of r state last) stop) same stops) in
       subst (λ (t : List ℕ). Stops written steady faults start new (texts_of rules first t) stop) (append-nil input)
       (feeds_stops written steady faults rules start sink new first state pending input [] stop feeds here)
 
@@ -159,9 +159,9 @@ module _ {Sink : Type 0} (written : Sink → Option (List ℕ)) (steady : Sink �
       let said = complete rules first (take taken input) in
       let rest = transcript rules state (pending ++ drop taken input) in
       let all : transcript rules first input ≡ said ++ rest =
-          ap (transcript rules first) (sym (take-append-drop taken input)) ∙
-          transcript-feeds written steady faults rules start new first state pending (take taken input)
-          (drop taken input) has.feeds in
+      ap (transcript rules first) (sym (take-append-drop taken input)) ∙
+      transcript-feeds written steady faults rules start new first state pending (take taken input)
+      (drop taken input) has.feeds in
       let less : length said ≤ room = omega (arith, length-append said rest, ap length all) in
       (other, (has.feeds.puts.calm _ (fitting (steady start) room _ less s)).1)
 

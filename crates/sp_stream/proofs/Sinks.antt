@@ -89,13 +89,13 @@ module _ {Sink : Type 0} (written : Sink → Option (List ℕ)) (steady : Sink �
           at.1,
           ap (λ t. some ++ t) at.2 ∙ sym (append_assoc some at.0 at.1),
           at.3 ∙ ap (λ t. Some t)
-          (append_assoc before (concat some) (concat at.0) ∙ ap (λ t. before ++ t) (sym (concat-append some at.0))),
+              (append_assoc before (concat some) (concat at.0) ∙ ap (λ t. before ++ t) (sym (concat-append some at.0))),
         );
     calm = λ room s.
         let both : steady old (length (concat some ++ concat others) + room) =
-            subst (λ (t : List ℕ). steady old (length t + room)) (concat-append some others) s in
+        subst (λ (t : List ℕ). steady old (length t + room)) (concat-append some others) s in
         let after_one = first.calm (length (concat others) + room)
-            (split_room (steady old) (concat some) (concat others) room both) in
+        (split_room (steady old) (concat some) (concat others) room both) in
         second.calm room after_one.0 ∙ after_one.1;
     later = omega (arith, first.later, second.later);
   }
@@ -112,7 +112,7 @@ module _ {Sink : Type 0} (written : Sink → Option (List ℕ)) (steady : Sink �
         );
     calm = λ room s.
         let both : steady old (length (concat some ++ concat others) + room) =
-            subst (λ (t : List ℕ). steady old (length t + room)) (concat-append some others) s in
+        subst (λ (t : List ℕ). steady old (length t + room)) (concat-append some others) s in
         runs_out.calm (length (concat others) + room)
         (split_room (steady old) (concat some) (concat others) room both);
     later = runs_out.later;

@@ -10,12 +10,12 @@ use Rattle.sp_stream.proofs.lines.finish.Goals as goal
 pub returns-in_err-answer_last-clause-stops : goal.returns-in_err-answer_last-clause-stops
 returns-in_err-answer_last-clause-stops g c =
     if_err c.from_residual.result c.from_residual.ensures.1 _ (λ stop is.
-        subst (λ (s : Stop). Stops g.K.Sink.written g.K.Sink.steady g.K.Sink.faults c.args.sink.now
-            c.answer_last.new.sink
-            (texts_of (g.A.Answers.rules c.args.answers.now) (g.A.Answers.state c.args.answers.now) c.args.pending.now) s)
-        (sym is)
-        (last_stops _ _ _ (g.A.Answers.rules c.args.answers.now) _ _ (g.A.Answers.state c.args.answers.now) c.args.pending.now c.in_err-answer_last.field-0.0 c.requires
-        c.in_err-answer_last.ensures.stops))
+    subst (λ (s : Stop). Stops g.K.Sink.written g.K.Sink.steady g.K.Sink.faults c.args.sink.now
+    c.answer_last.new.sink
+    (texts_of (g.A.Answers.rules c.args.answers.now) (g.A.Answers.state c.args.answers.now) c.args.pending.now) s)
+    (sym is)
+    (last_stops _ _ _ (g.A.Answers.rules c.args.answers.now) _ _ (g.A.Answers.state c.args.answers.now) c.args.pending.now c.in_err-answer_last.field-0.0 c.requires
+    c.in_err-answer_last.ensures.stops))
 
 pub returns-clause-puts : goal.returns-clause-puts
 returns-clause-puts g c =
