@@ -153,7 +153,7 @@ pub record FirstRun (parts : List ℕ) : Type 0 where
   pub text : partition_text parts ≡ part_text (slice_index parts 0) (lead parts) ++ later_text (drop (lead parts) parts)
   pub rest : IsHeld (drop (lead parts) parts)
 
-lead_some : (p : ℕ) (parts : List ℕ) → lead (p ∷ parts) ≡ suc (prefix_len (λ q. nat_eq q p) parts)
+pub lead_some : (p : ℕ) (parts : List ℕ) → lead (p ∷ parts) ≡ suc (prefix_len (λ q. nat_eq q p) parts)
 lead_some p parts = ap (λ b. cond b (1 + n) 0) (eq-eqb p p refl) ∙ one
   where
     n : ℕ

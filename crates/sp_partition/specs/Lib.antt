@@ -2,3 +2,5 @@ pub mod Held
 pub mod Padded
 pub mod OrderLaws
 pub mod Runs
+pub mod Grammar
+pub mod Pieces

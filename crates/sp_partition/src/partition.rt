@@ -1,5 +1,5 @@
 // A partition is a fixed array of parts, seen as its list.
-ghost use Rattle.std.specs.Prelude.{◌≡◌, ◌≢◌, ◌↔◌, ℕ, ◌+◌, ◌-◌, ◌<◌, ◌≤◌, [], IfOk, IfSome, IsTrue, SomeIff, length, slice_index, sum};
+ghost use Rattle.std.specs.Prelude.{◌≡◌, ◌≢◌, ◌↔◌, ℕ, ◌+◌, ◌-◌, ◌*◌, ◌<◌, ◌≤◌, ◌++◌, [], replicate, IfOk, IfSome, IsTrue, SomeIff, length, slice_index, sum};
 ghost use Rattle.sp_defs.specs.Partition.{degree as degree_of, part as part_of, IsPartition, is_regular as regular};
 ghost use Rattle.sp_defs.specs.Node.{is_addable, is_removable};
 ghost use Rattle.sp_defs.specs.Signature.{grow, shrink};
@@ -145,6 +145,23 @@ impl Partition {
         Some(shrunk)
     }
 
+    // The partition with so many equal parts more, unless that is past the capacity.
+    pub(crate) fn with_run(&self, part: u8, times: u8) -> Option<Partition>
+        requires { degree_of self.now + times * part ≤ CAPACITY → IsPartition (self.now ++ replicate times part) }
+        ensures { SomeIff result (degree_of self.now + times * part ≤ CAPACITY) (self.now ++ replicate times part) }
+    {
+        let degree = self.degree as u16 + times as u16 * part as u16;
+        if degree > CAPACITY as u16 {
+            return None;
+        }
+        let start = self.count as usize;
+        let mut longer = *self;
+        fill(&mut longer.parts[start..start + times as usize], part);
+        longer.degree = degree as u8;
+        longer.count += times;
+        Some(longer)
+    }
+
     // The part in this row, counted from 1, which is 0 below the last.
     fn part(&self, row: u8) -> u8
         requires { 0 < row }
@@ -194,6 +211,12 @@ fn small_sum(parts: &[u8]) -> Option<u8>
         sum += *part;
     }
     Some(sum)
+}
+
+fn fill(places: &mut [u8], part: u8)
+    ensures { places.new ≡ replicate (length places.old) part }
+{
+    places.fill(part);
 }
 
 // These parts, with zeros behind them.
