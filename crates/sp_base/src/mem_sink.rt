@@ -1,5 +1,6 @@
 // A sink in memory, which fails at listed calls and where its room is used up.
-ghost use Rattle.std.specs.Prelude.{◌≡◌, ◌≤◌, ◌<◌, ◌↔◌, ◌+◌, ◌-◌, [], List, ℕ, Some, length, min, IfOk, IsErr, IsOkAnd, OnOk, OnErr, vec_capacity};
+ghost use Rattle.std.specs.Prelude.{◌≡◌, ◌≤◌, ◌<◌, ◌↔◌, ◌+◌, ◌-◌, [], List, ℕ, Some, length, min, IfOk, IsErr};
+ghost use Rattle.std.specs.Prelude.{IsOkAnd, OnOk, OnErr, vec_capacity};
 ghost use Rattle.sp_base.specs.Bytes.{Writes};
 ghost use Rattle.sp_base.specs.Causes.{HasCause, one_more};
 ghost use Rattle.sp_base.specs.Memory.{MemorySink, FailsToWrite};

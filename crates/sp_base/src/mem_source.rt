@@ -1,5 +1,6 @@
 // A source in memory, which fails at listed calls.
-ghost use Rattle.std.specs.Prelude.{◌≡◌, ◌≤◌, ◌<◌, ◌↔◌, [], List, ℕ, Some, length, drop, min, IfOk, IsOk, IsErr, OnOk, OnErr};
+ghost use Rattle.std.specs.Prelude.{◌≡◌, ◌≤◌, ◌<◌, ◌↔◌, [], List, ℕ, Some, length, drop, min, IfOk, IsOk, IsErr};
+ghost use Rattle.std.specs.Prelude.{OnOk, OnErr};
 ghost use Rattle.sp_base.specs.Bytes.{Reads};
 ghost use Rattle.sp_base.specs.Causes.{HasCause, one_more};
 ghost use Rattle.sp_base.specs.Memory.{MemorySource, FailsToRead};

@@ -1,5 +1,7 @@
 -- How an input is cut at its newlines, bit by bit.
-use Rattle.std.proofs.Common.{◌≡◌, ◌≢◌, ◌<◌, ◌≤◌, ◌+◌, ◌++◌, ◌==◌, ltb, cond, not, true, false, Bool, [], ◌∷◌, List, ℕ, Option, Some, None, length, take, drop, get_or, append_assoc, append-nil, arith, ap, sym, ◌∙◌, refl, subst, MatchOption}
+use Rattle.std.proofs.Common.{◌≡◌, ◌≢◌, ◌<◌, ◌≤◌, ◌+◌, ◌++◌, ◌==◌, ltb, cond, not, true, false, Bool, [], ◌∷◌, List}
+use Rattle.std.proofs.Common.{ℕ, Option, Some, None, length, take, drop, append_assoc, arith, ap, sym, ◌∙◌, refl}
+use Rattle.std.proofs.Common.{subst, MatchOption}
 use Rattle.std.specs.List.{position, position_or_len, before_first, after_first}
 use Rattle.std.proofs.lemmas.Grind.{common_steps}
 use Rattle.std.proofs.lemmas.Bool.Decides.{nat_tests}

@@ -1,22 +1,18 @@
 -- A whole run.
-use Rattle.std.proofs.Common.{◌≡◌, ◌≢◌, ◌≤◌, ◌<◌, ◌+◌, ◌-◌, ◌++◌, [], List, ℕ, Option, Some, length, take, drop, length-append, append_assoc, append-nil, arith, ap, sym, ◌∙◌, refl, subst, ◌⊎◌, inl, inr}
-use Rattle.std.specs.List.{concat}
+use Rattle.std.proofs.Common.{◌≡◌, ◌≢◌, ◌≤◌, ◌+◌, ◌-◌, ◌++◌, [], List, ℕ, Option, Some, length, take, drop}
+use Rattle.std.proofs.Common.{length-append, append-nil, arith, ap, sym, ◌∙◌, subst, ◌⊎◌, inr}
 use Rattle.std.proofs.lemmas.List.{take-append-drop, take-append-le, length-drop, drop-drop}
-use Rattle.std.proofs.lemmas.List.Folds.{concat-append}
 use Rattle.std.proofs.Math.Seq.{take-add}
 use Rattle.sp_base.specs.Bytes.{Hands}
 use Rattle.sp_stream.specs.declared.lines.Stop.{Stop}
 use Rattle.sp_stream.specs.declared.lines.Stop.TheVariants.{Write, Memory}
 use Rattle.sp_stream.specs.declared.reading.TheConstants.{INPUT_LIMIT}
 use Rattle.sp_stream.specs.declared.status.Status.{Status}
-use Rattle.sp_stream.specs.declared.status.Status.TheVariants.{Done, ReadFault, WriteFault, OutOfMemory, InputTooLong}
-use Rattle.sp_stream.specs.Lines.{begun_line, whole_lines, IsOneLine}
-use Rattle.sp_stream.specs.Transcript.{Rules, complete, replies, state_after, texts_of, transcript}
+use Rattle.sp_stream.specs.declared.status.Status.TheVariants.{Done, WriteFault, OutOfMemory, InputTooLong}
+use Rattle.sp_stream.specs.Transcript.{Rules, complete, texts_of, transcript}
 use Rattle.sp_stream.specs.Writing.{Puts, Stops, Feeds}
-use Rattle.sp_stream.specs.Served.{Answered, MayTake, Takes, status_of}
-use Rattle.sp_stream.proofs.Cutting.{one_line-begun}
+use Rattle.sp_stream.specs.Served.{Answered, Takes, status_of}
 use Rattle.sp_stream.proofs.Feeding.{feeds_begun, feeds_both, feeds_puts, feeds_stops, transcript-feeds}
-use Rattle.sp_stream.proofs.Sinks.{puts_both}
 
 -- a sink that is steady for more bytes than a text has
 fitting : (steady : ℕ → Type 0) (room many : ℕ) → many ≤ room → steady room → steady (many + (room - many))

@@ -1,5 +1,6 @@
 -- Texts that are written one after the other, and where that stops.
-use Rattle.std.proofs.Common.{◌≡◌, ◌≤◌, ◌<◌, ◌+◌, ◌-◌, ◌++◌, [], ◌∷◌, List, ℕ, Option, Some, length, take, drop, length-append, append_assoc, append-nil, arith, ap, sym, ◌∙◌, refl, subst}
+use Rattle.std.proofs.Common.{◌≡◌, ◌≤◌, ◌<◌, ◌+◌, ◌-◌, ◌++◌, [], List, ℕ, Option, Some, length, take, length-append}
+use Rattle.std.proofs.Common.{append_assoc, append-nil, arith, ap, sym, ◌∙◌, refl, subst}
 use Rattle.std.specs.List.{concat}
 use Rattle.std.proofs.lemmas.Grind.{common_steps}
 use Rattle.std.proofs.lemmas.List.Folds.{concat-append}

@@ -1,7 +1,8 @@
 -- How a program ends, by the status of its run.
 use Rattle.std.specs.Prelude.{ℕ, List, codes}
 use Rattle.sp_stream.specs.declared.status.Status.{Status}
-use Rattle.sp_stream.specs.declared.status.Status.TheVariants.{Done, Usage, ReadFault, WriteFault, OutOfMemory, InputTooLong}
+use Rattle.sp_stream.specs.declared.status.Status.TheVariants.{Done, Usage, ReadFault, WriteFault, OutOfMemory}
+use Rattle.sp_stream.specs.declared.status.Status.TheVariants.{InputTooLong}
 
 -- the exit code
 abbrev pub code_of : Status → ℕ

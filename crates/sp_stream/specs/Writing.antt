@@ -39,7 +39,8 @@ Stops written steady faults old new texts Memory = RunsOut written steady faults
 
 -- these bytes were answered as far as their lines are whole, and the line that they begin is kept
 pub record Feeds {State Sink : Type 0} (written : Sink → Option (List ℕ)) (steady : Sink → ℕ → Type 0)
-    (faults : Sink → ℕ) (old new : Sink) (rules : Rules State) (first now : State) (pending bytes : List ℕ) : Type 0 where
+    (faults : Sink → ℕ) (old new : Sink) (rules : Rules State) (first now : State) (pending bytes : List ℕ) :
+    Type 0 where
   pub begun : pending ≡ begun_line bytes
   pub state : now ≡ state_after rules first (whole_lines bytes)
   pub puts : Puts written steady faults old new (complete rules first bytes)

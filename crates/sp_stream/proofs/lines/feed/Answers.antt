@@ -1,8 +1,8 @@
-use Rattle.std.proofs.Common.{◌≡◌, ◌<◌, ◌≤◌, ◌+◌, ◌-◌, ◌++◌, [], ◌∷◌, List, ℕ, Option, Some, None, Result, Ok, Err, length, take, drop, arith, ap, sym, ◌∙◌, refl, append_assoc, append-nil, subst, IfErr, IsErrAnd, MatchOption}
+use Rattle.std.proofs.Common.{◌≡◌, ◌+◌, ◌-◌, ◌++◌, [], ◌∷◌, List, ℕ, Some, None, length, take, drop, arith, ap, sym}
+use Rattle.std.proofs.Common.{◌∙◌, refl, append_assoc, append-nil, subst}
 use Rattle.std.proofs.lemmas.Grind.{common_steps}
-use Rattle.std.proofs.lemmas.Result.{err_from_is_err_and}
 use Rattle.sp_stream.specs.declared.lines.Stop.{Stop}
-use Rattle.sp_stream.specs.declared.lines.Stop.TheVariants.{Write, Memory}
+use Rattle.sp_stream.specs.declared.lines.Stop.TheVariants.{Memory}
 use Rattle.sp_stream.specs.Transcript.{texts_of}
 use Rattle.sp_stream.specs.Lines.{IsOneLine}
 use Rattle.sp_stream.specs.declared.lines.TheConstants.{NEWLINE}
@@ -45,21 +45,21 @@ loop-end-preserved g c =
     let rest : List ℕ = c.loop-end.rest.now in
     let i : ℕ = c.in-Some.end in
     let found = first_newline rest (Some i) c.in-Some.ensures in
-    let next : take (length rest - (i + 1)) (drop (i + 1) rest) ≡ drop (i + 1) rest = grind (arith, common_steps) in
+    let line : List ℕ = take i rest ++ NEWLINE ∷ [] in
+    let next : List ℕ = take (length rest - (i + 1)) (drop (i + 1) rest) in
+    let next_is : next ≡ drop (i + 1) rest = grind (arith, common_steps) in
+    let rest_is : rest ≡ line ++ next =
+    found.1 ∙ ap (λ t. take i rest ++ NEWLINE ∷ t) (sym next_is) ∙ sym (append_assoc (take i rest) (NEWLINE ∷ []) next) in
     record {
       same = c.in_ok-end_line.ensures.same ∙ at.same;
       seen = (
-        at.seen.0 ++ (take i rest ++ NEWLINE ∷ []),
-        at.seen.1 ∙ ap (λ t. at.seen.0 ++ t)
-            (found.1 ∙ ap (λ t. take i rest ++ NEWLINE ∷ t) (sym next) ∙
-            sym (append_assoc (take i rest) (NEWLINE ∷ []) (take (length rest - (i + 1)) (drop (i + 1) rest)))) ∙
-            sym (append_assoc at.seen.0 (take i rest ++ NEWLINE ∷ []) (take (length rest - (i + 1)) (drop (i + 1) rest))),
-        subst (λ (p : List ℕ). Feeds g.K.Sink.written g.K.Sink.steady g.K.Sink.faults c.args.sink.now c.end_line.new.sink
-            (g.A.Answers.rules c.args.answers.now) (g.A.Answers.state c.args.answers.now)
-            (g.A.Answers.state c.end_line.new.answers) p
-            (c.args.pending.now.items ++ (at.seen.0 ++ (take i rest ++ NEWLINE ∷ []))))
+        at.seen.0 ++ line,
+        at.seen.1 ∙ ap (λ t. at.seen.0 ++ t) rest_is ∙ sym (append_assoc at.seen.0 line next),
+        subst (λ (p : List ℕ). Feeds g.K.Sink.written g.K.Sink.steady g.K.Sink.faults c.args.sink.now
+            c.end_line.new.sink (g.A.Answers.rules c.args.answers.now) (g.A.Answers.state c.args.answers.now)
+            (g.A.Answers.state c.end_line.new.answers) p (c.args.pending.now.items ++ (at.seen.0 ++ line)))
             (sym c.in_ok-end_line.ensures.cleared)
-            (feeds_next _ _ _ _ _ _ _ _ _ _ _ _ _ _ (take i rest) (drop (i + 1) rest) at.same at.seen.2 found.0
+            (feeds_next _ _ _ _ _ _ _ _ _ _ _ _ _ _ (take i rest) at.same at.seen.2 found.0
             c.in_ok-end_line.ensures.next c.in_ok-end_line.ensures.puts),
       );
     }
@@ -82,7 +82,8 @@ returns-clause-feeds g c =
     let at = c.loop-end.invariant in
     let rest : List ℕ = c.loop-end.rest.now in
     let one : IsOneLine rest = first_newline rest None c.in_default.ensures in
-    let taken = feeds_rest _ _ _ _ _ _ _ _ c.loop-end.pending.items c.args.pending.now.items at.seen.0 rest at.seen.2 one in
+    let taken = feeds_rest _ _ _ _ _ _ _ _ c.loop-end.pending.items c.args.pending.now.items at.seen.0 rest
+    at.seen.2 one in
     subst (λ (t : List ℕ). Feeds g.K.Sink.written g.K.Sink.steady g.K.Sink.faults c.args.sink.now c.loop-end.sink
     (g.A.Answers.rules c.args.answers.now) (g.A.Answers.state c.args.answers.now)
     (g.A.Answers.state c.loop-end.answers) t (c.args.pending.now.items ++ c.args.chunk.now))

@@ -1,4 +1,4 @@
-use Rattle.std.proofs.Common.{◌≡◌, sym, subst, Result, Ok, Err}
+use Rattle.std.proofs.Common.{sym, subst}
 use Rattle.std.proofs.lemmas.Result.{on_ok_weaker, IfErr-weaker}
 use Rattle.sp_stream.specs.declared.lines.Stop.{Stop}
 use Rattle.sp_stream.specs.Transcript.{texts_of}
@@ -14,7 +14,8 @@ returns-in_err-answer_last-clause-stops g c =
     c.answer_last.new.sink
     (texts_of (g.A.Answers.rules c.args.answers.now) (g.A.Answers.state c.args.answers.now) c.args.pending.now) s)
     (sym is)
-    (last_stops _ _ _ (g.A.Answers.rules c.args.answers.now) _ _ (g.A.Answers.state c.args.answers.now) c.args.pending.now c.in_err-answer_last.field-0.0 c.requires
+    (last_stops _ _ _ (g.A.Answers.rules c.args.answers.now) _ _ (g.A.Answers.state c.args.answers.now)
+    c.args.pending.now c.in_err-answer_last.field-0.0 c.requires
     c.in_err-answer_last.ensures.stops))
 
 pub returns-clause-puts : goal.returns-clause-puts
