@@ -132,5 +132,14 @@ fn checked_label(e: Option<u8>, mu: Option<Partition>) -> Option<(u8, Partition)
 fn partition(word: &[u8]) -> Option<Partition>
     ensures { result ≡ partition_of DEGREE_LIMIT word.now }
 {
-    None
+    match Partition::parse(word) {
+        Ok(p) => {
+            if p.degree() <= DEGREE_LIMIT {
+                Some(p)
+            } else {
+                None
+            }
+        }
+        Err(_) => None,
+    }
 }
