@@ -1,0 +1,8 @@
+//! Divided powers on vectors of the Fock space.
+#![tactic(auto)]
+
+mod fault;
+mod moves;
+mod runs;
+
+pub use fault::PowerFault;
