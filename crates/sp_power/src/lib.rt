@@ -3,6 +3,8 @@
 
 mod fault;
 mod moves;
+mod power;
 mod runs;
 
 pub use fault::PowerFault;
+pub use power::induce;
