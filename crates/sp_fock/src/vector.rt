@@ -6,7 +6,7 @@ ghost use Rattle.sp_defs.specs.Power.{fock_vector, unit, vector_of};
 ghost use Rattle.sp_fock_law.specs.Joined.{plus_scaled, addition_weight};
 ghost use Rattle.sp_laurent.specs.Held.{power_limit};
 ghost use Rattle.sp_fock.specs.Shim.{ProductWithin};
-ghost use Rattle.sp_fock.specs.Held.{IsHeld};
+ghost use Rattle.sp_fock.specs.Held.{IsHeld, held_as};
 
 use crate::joined::all_fit;
 use crate::sums::sum_of;
@@ -55,6 +55,14 @@ impl Vector {
             degree: p.degree(),
             pairs: vec![in alloc; (*p, Laurent::monomial(alloc, 1, 0)?)]?,
         })
+    }
+
+    /// The vector with these terms, by ascending partitions of the degree.
+    pub fn from_pairs(degree: u8, pairs: Vec<(Partition, Laurent)>) -> Vector
+        requires { IsHeld (held_as degree pairs.items) }
+        ensures { result ≡ held_as degree pairs.items }
+    {
+        Vector { degree, pairs }
     }
 
     /// The degree of its partitions.

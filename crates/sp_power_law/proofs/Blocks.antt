@@ -9,8 +9,8 @@ use Rattle.std.specs.declared.cmp.Ordering.TheVariants.{Less, Equal, Greater}
 use Rattle.std.proofs.lemmas.Cmp.{nat_cmp_total, tied_itself}
 use Rattle.sp_defs.specs.Partition.{degree, compare, order, IsEarlier}
 use Rattle.sp_shapes.proofs.Order.{all_mono, equal_self, same_lists, less_trans, later_than}
-use Rattle.sp_power_law.specs.Runs.{Arrival, Run, joined, runs}
-use Rattle.sp_power_law.proofs.Runs.{InOrder, is_at, Begins, runs-begin, same_or_later}
+use Rattle.sp_power_law.specs.Runs.{is_at, Arrival, Run, joined, runs}
+use Rattle.sp_power_law.proofs.Runs.{InOrder, Begins, runs-begin, same_or_later}
 
 -- ---- the first run
 

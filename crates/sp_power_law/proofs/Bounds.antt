@@ -15,11 +15,10 @@ use Rattle.sp_algebra.proofs.Sizes.{within_plus, within_times, product_within}
 use Rattle.sp_shapes.proofs.Degrees.{length-degree}
 use Rattle.sp_shapes.proofs.Order.{all_mono}
 use Rattle.sp_power_law.specs.Walk.{Reached, moves_through, moves}
-use Rattle.sp_power_law.specs.Runs.{Arrival, arrivals, polynomial_at, share_of}
+use Rattle.sp_power_law.specs.Runs.{is_at, Arrival, arrivals, polynomial_at, share_of}
 use Rattle.sp_power_law.proofs.Gains.{addable_at, removable_at, not_both}
 use Rattle.sp_power_law.proofs.Rows.{row_marks_are}
 use Rattle.sp_power_law.proofs.Exchange.{at_length, sum_of_arrivals}
-use Rattle.sp_power_law.proofs.Runs.{is_at}
 
 -- ---- on the way down
 

@@ -18,9 +18,8 @@ use Rattle.sp_algebra.proofs.Sums.{sum_over-append, sum_over-map}
 use Rattle.sp_algebra.proofs.Reordered.{sum_over-filter}
 use Rattle.sp_shapes.proofs.Order.{all_mono}
 use Rattle.sp_power_law.specs.Walk.{Reached, moves}
-use Rattle.sp_power_law.specs.Runs.{Arrival, arrivals, share_of, size_of}
+use Rattle.sp_power_law.specs.Runs.{is_at, Arrival, arrivals, share_of, size_of}
 use Rattle.sp_power_law.proofs.Ways.{moves_to}
-use Rattle.sp_power_law.proofs.Runs.{is_at}
 
 -- What a polynomial at lambda adds at nu, and its size where it adds anything.
 abbrev pub reach : ℕ → ℕ → ℕ → List ℕ → List ℕ → Laurent → Laurent

@@ -18,9 +18,9 @@ use Rattle.sp_algebra.proofs.Reordered.{sum_over-filter-permutation}
 use Rattle.sp_shapes.proofs.Order.{all_mono, equal_self, same_lists, less_trans}
 use Rattle.sp_shapes.proofs.Listing.{Occurs, all_partitions, each_partition, partitions_ascend}
 use Rattle.sp_power_law.specs.Walk.{moves}
-use Rattle.sp_power_law.specs.Runs.{Arrival, Run, arrivals, runs, share_of, size_of, sums_of, sizes_of}
+use Rattle.sp_power_law.specs.Runs.{is_at, Arrival, Run, arrivals, runs, share_of, size_of, sums_of, sizes_of}
 use Rattle.sp_power_law.proofs.Ways.{IsMoveOf, all_moves}
-use Rattle.sp_power_law.proofs.Runs.{earlier_than, InOrder, is_at, heads, runs-are, runs-heads, has_run}
+use Rattle.sp_power_law.proofs.Runs.{earlier_than, InOrder, heads, runs-are, runs-heads, has_run}
 use Rattle.sp_power_law.proofs.Exchange.{sum_of_arrivals, size_of_arrivals}
 
 -- ---- a list of partitions that leaves out only zeros has the same entries

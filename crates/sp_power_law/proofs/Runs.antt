@@ -10,15 +10,12 @@ use Rattle.sp_defs.specs.Partition.{compare, Ascending, IsEarlier}
 use Rattle.sp_lists.proofs.Elements.{all_both}
 use Rattle.sp_shapes.proofs.Order.{all_mono, equal_self, same_lists, less_trans, later_than}
 use Rattle.sp_shapes.proofs.Listing.{Occurs}
-use Rattle.sp_power_law.specs.Runs.{Arrival, Run, joined, runs}
+use Rattle.sp_power_law.specs.Runs.{Arrival, Run, is_at, joined, runs}
 
 -- No arrival is at an earlier partition than one before it.
 abbrev pub InOrder : List Arrival → Type 0
 InOrder [] = Unit {0}
 InOrder (t ∷ ts) = AllByRecursion (λ u. is_lt (compare u.0 t.0) ≡ false) ts × InOrder ts
-
-abbrev pub is_at : List ℕ → Arrival → Bool
-is_at nu t = is_eq (compare t.0 nu)
 
 abbrev pub heads : List Run → List (List ℕ)
 heads rs = map (λ run. run.0) rs

@@ -89,7 +89,7 @@ unfolding int_sum
 int_sum-append [] ys = omega (arith, ints)
 int_sum-append (x ∷ xs) ys = omega (arith, ints, int_sum-append xs ys)
 
-map-append : {X Y : Type 0} (f : X → Y) (xs ys : List X) → map f (xs ++ ys) ≡ map f xs ++ map f ys
+pub map-append : {X Y : Type 0} (f : X → Y) (xs ys : List X) → map f (xs ++ ys) ≡ map f xs ++ map f ys
 map-append f [] ys = refl
 map-append f (x ∷ xs) ys = ap (λ l. f x ∷ l) (map-append f xs ys)
 

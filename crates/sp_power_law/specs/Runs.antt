@@ -1,5 +1,5 @@
 -- All moves from the entries of a vector, in a list that can be put in order and cut into runs of one partition each.
-use Rattle.std.specs.Prelude.{ℕ, ◌+◌, cond, nat_lt, List, [], ◌∷◌, ◌++◌, map, length, filter, sum_by, slice_index_or, ℤ}
+use Rattle.std.specs.Prelude.{ℕ, ◌+◌, Bool, cond, nat_lt, List, [], ◌∷◌, ◌++◌, map, length, filter, sum_by, slice_index_or, ℤ}
 use Rattle.std.specs.Ordering.{is_eq}
 use Rattle.sp_defs.specs.Partition.{compare}
 use Rattle.sp_defs.specs.Laurent.{Laurent, power, times, sum_over, size}
@@ -24,6 +24,10 @@ share_of es t = times (power t.2) (polynomial_at es t.1)
 
 abbrev pub size_of : Entries → Arrival → ℕ
 size_of es t = size (polynomial_at es t.1)
+
+-- Whether a move leads to this partition.
+abbrev pub is_at : List ℕ → Arrival → Bool
+is_at nu t = is_eq (compare t.0 nu)
 
 -- A partition with its arrivals.
 abbrev pub Run : Type 0

@@ -1,0 +1,4 @@
+pub mod Descent
+pub mod Found
+pub mod Summing
+pub mod Induced
