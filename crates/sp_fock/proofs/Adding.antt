@@ -13,7 +13,7 @@ use Rattle.sp_fock_law.proofs.JoinedAll.{HoldsOfBoth, joined-all}
 use Rattle.sp_partition.specs.Held.{IsHeld as IsHeldPartition}
 use Rattle.sp_laurent.specs.Held.{power_limit, IsHeld as IsHeldPolynomial}
 use Rattle.sp_fock.specs.Held.{IsHeld, ArePairs, held_as}
-use Rattle.sp_fock.specs.Shim.{ProductWithin}
+use Rattle.sp_defs.specs.Within.{ProductWithin}
 use Rattle.sp_fock.specs.Sum.{CanAdd, added}
 
 nothing_within : (d : ℕ) (a : Laurent) → ProductWithin d a []

@@ -6,13 +6,9 @@ use Rattle.std.specs.Result.{MatchResult}
 use Rattle.sp_defs.specs.Partition.{order}
 use Rattle.sp_defs.specs.Laurent.{Laurent}
 use Rattle.sp_defs.specs.Power.{Entries, IsVector, vector_of}
+use Rattle.sp_lists.proofs.Places.{all_at}
 use Rattle.sp_fock_law.proofs.Places.{places_ascend, searched}
 use Rattle.sp_partition.specs.OrderLaws.{order_total, order_equal, order_one_degree}
-
-all_at : {X : Type 0} (P : X → Type 0) (xs : List X) (i : ℕ) (d : X) → AllByRecursion P xs → i < length xs → P (get_or xs i d)
-all_at P [] i d h lt = absurd (omega arith)
-all_at P (x ∷ xs) zero d (h, hs) lt = h
-all_at P (x ∷ xs) (suc i) d (h, hs) lt = all_at P xs i d hs (omega arith)
 
 pub found_in : (n : ℕ) (es : Entries) → IsVector n es → (lambda : List ℕ) (r : Result ℕ ℕ) → IsSearchInRange r (length es) → IsBinarySearchResult (λ t. order t.0 lambda) es r
     → MatchResult r (λ i. (d : List ℕ × Laurent) → vector_of es lambda ≡ (get_or es i d).1) (λ _. vector_of es lambda ≡ [])

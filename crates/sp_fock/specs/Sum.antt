@@ -4,7 +4,7 @@ use Rattle.sp_defs.specs.Laurent.{Laurent, IsLaurent, plus, times, size}
 use Rattle.sp_fock_law.specs.Joined.{Joint}
 use Rattle.sp_partition.specs.Held.{IsHeld as IsHeldPartition}
 use Rattle.sp_laurent.specs.Held.{power_limit}
-use Rattle.sp_fock.specs.Shim.{ProductWithin}
+use Rattle.sp_defs.specs.Within.{ProductWithin}
 
 -- The second can be multiplied by a and added to the first, within the limit.
 pub record CanAdd (a : Laurent) (limit : ℕ) (j : Joint) : Type 0 where

@@ -5,13 +5,12 @@ ghost use Rattle.sp_defs.specs.Partition.{degree as degree_of};
 ghost use Rattle.sp_defs.specs.Power.{fock_vector, unit, vector_of};
 ghost use Rattle.sp_fock_law.specs.Joined.{plus_scaled, addition_weight};
 ghost use Rattle.sp_laurent.specs.Held.{power_limit};
-ghost use Rattle.sp_fock.specs.Shim.{ProductWithin};
+ghost use Rattle.sp_defs.specs.Within.{ProductWithin};
 ghost use Rattle.sp_fock.specs.Held.{IsHeld};
 
 use crate::joined::all_fit;
 use crate::sums::sum_of;
 use crate::{FockFault, Terms};
-use crate::shim;
 use sp_laurent::Laurent;
 use sp_partition::Partition;
 use std::alloc::{AllocError, Global};
@@ -96,7 +95,7 @@ impl Vector {
     {
         let mut pairs = Vec::new(alloc);
         for pair in &self.pairs {
-            pairs.push((pair.0, shim::copy(&pair.1, alloc)?))?;
+            pairs.push((pair.0, pair.1.copy(alloc)?))?;
         }
         Ok(Vector {
             degree: self.degree,
