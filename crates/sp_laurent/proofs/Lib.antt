@@ -3,3 +3,4 @@ pub mod Held
 pub mod Merging
 pub mod Multiple
 pub mod Product
+pub mod Texts

@@ -1,17 +1,20 @@
 //! Laurent polynomials in v with whole coefficients, whose size and powers have limits.
 #![tactic(auto)]
 
-ghost use Rattle.std.specs.Prelude.{◌≡◌, ℕ, ◌+◌, ◌*◌, ◌^◌, ◌<◌, ◌≤◌, ◌↔◌, unsigned_abs, IfOk, OnOk, OnErr, IsErrOf, IsTrue, []};
+ghost use Rattle.std.specs.Prelude.{◌≡◌, ℕ, ◌+◌, ◌*◌, ◌^◌, ◌<◌, ◌≤◌, ◌↔◌, unsigned_abs, IfOk, OnOk, OnErr, IsErrOf, IsTrue, [], ◌++◌};
 ghost use Rattle.sp_defs.specs.Laurent.{coefficient, size, monomial, plus, times};
+ghost use Rattle.sp_defs.specs.Text.{polynomial_text};
 ghost use Rattle.sp_defs.specs.Within.{PowersWithin, ProductWithin};
 ghost use Rattle.sp_laurent.specs.Held.{IsHeld, power_limit};
 
 use crate::sums::{is_within, push_term, with_product};
+use crate::text::print_terms;
 use std::alloc::{AllocError, Global};
 use std::marker::Model;
 
 mod fault;
 mod sums;
+mod text;
 
 pub use fault::LaurentFault;
 
@@ -127,5 +130,18 @@ impl Laurent {
         }
         self.terms = with_product(alloc, &self.terms, &a.terms, &b.terms)?;
         Ok(())
+    }
+
+    /// Appends the canonical text, as `v^-1+2+v`.
+    pub fn print(&self, _alloc: Global, out: &mut Vec<u8>) -> Result<(), AllocError>
+        ensures ok { OnOk result (out.new.items ≡ out.old.items ++ polynomial_text self.now) }
+        ensures err { OnErr result (out.new.items ≡ out.old.items) }
+    {
+        let before = out.len();
+        let printed = print_terms(out, &self.terms);
+        if printed.is_err() {
+            out.truncate(before);
+        }
+        printed
     }
 }
