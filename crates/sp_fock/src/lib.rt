@@ -3,7 +3,6 @@
 
 mod fault;
 mod joined;
-mod shim;
 mod sums;
 mod terms;
 mod text;

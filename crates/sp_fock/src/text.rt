@@ -3,8 +3,8 @@ ghost use Rattle.std.specs.Prelude.{◌≡◌, ◌++◌, ◌↔◌, take, length
 ghost use Rattle.sp_fock.specs.Print.{first_entry_text};
 ghost use Rattle.sp_defs.specs.Text.{entry_text, factor_text, has_minus as has_minus_of, next_entry_text, vector_text, written};
 
-use crate::{shim, Terms, Vector};
-use sp_laurent::Laurent;
+use crate::{Terms, Vector};
+use sp_laurent::{Laurent, print_term};
 use sp_partition::Partition;
 use std::alloc::{AllocError, Global};
 
@@ -88,10 +88,10 @@ fn put_factor(alloc: Global, out: &mut Vec<u8>, coefficient: &Laurent) -> Result
 {
     match coefficient.terms() {
         [] | [(0, 1 | -1)] => Ok(()),
-        [(power, constant)] => shim::put_term(alloc, out, *power, *constant),
+        [term] => print_term(out, *term),
         _ => {
             out.push(b'(')?;
-            shim::print(coefficient, alloc, out)?;
+            coefficient.print(alloc, out)?;
             out.push(b')')?;
             Ok(())
         }
