@@ -11,3 +11,6 @@ mod vector;
 pub use fault::FockFault;
 pub use terms::Terms;
 pub use vector::Vector;
+
+#[cfg(test)]
+mod tests;
