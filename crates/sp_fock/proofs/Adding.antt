@@ -6,15 +6,16 @@ use Rattle.sp_defs.specs.Laurent.{Laurent, IsLaurent, collect, plus, times, size
 use Rattle.sp_defs.specs.Power.{Entries, IsVector, vector_of, entries, FockVector}
 use Rattle.sp_lists.proofs.Elements.{all_both}
 use Rattle.sp_shapes.proofs.Order.{all_mono}
-use Rattle.sp_fock_law.specs.Joined.{Joint, joined, combined, plus_scaled, addition_weight}
+use Rattle.sp_fock_law.specs.Joined.{Joint, joined, combined}
+use Rattle.sp_fock_law.specs.Addition.{plus_scaled, scaled_sum, scaled_sum_weight}
 use Rattle.sp_fock_law.proofs.Vectors.{IsVector-entries}
 use Rattle.sp_fock_law.proofs.Joined.{combined-entries, weight_within}
 use Rattle.sp_fock_law.proofs.JoinedAll.{HoldsOfBoth, joined-all}
 use Rattle.sp_partition.specs.Held.{IsHeld as IsHeldPartition}
 use Rattle.sp_laurent.specs.Held.{power_limit, IsHeld as IsHeldPolynomial}
 use Rattle.sp_fock.specs.Held.{IsHeld, ArePairs, held_as}
-use Rattle.sp_fock.specs.Shim.{ProductWithin}
-use Rattle.sp_fock.specs.Sum.{CanAdd, added}
+use Rattle.sp_defs.specs.Within.{ProductWithin}
+use Rattle.sp_fock.specs.Sum.{CanAdd, added, AllFit}
 
 nothing_within : (d : ℕ) (a : Laurent) → ProductWithin d a []
 nothing_within d [] = tt
@@ -38,10 +39,14 @@ can_add limit a es fs he hf within fits =
 
     parts : AllByRecursion Parts (joined es fs)
     parts =
-        joined-all IsHeldPartition IsLaurent (ProductWithin power_limit a) nought_laurent (nothing_within power_limit a) es fs
-        (all_mono (λ t. IsHeldPartition t.0 × IsHeldPolynomial t.1) (λ t. IsHeldPartition t.0 × IsLaurent t.1) es (λ t h. (h.0, h.1.laurent)) he)
-        (all_mono (λ t. (IsHeldPartition t.0 × IsHeldPolynomial t.1) × ProductWithin power_limit a t.1) (λ t. IsHeldPartition t.0 × ProductWithin power_limit a t.1) fs (λ t h. (h.0.0, h.1))
-        (all_both (λ t. IsHeldPartition t.0 × IsHeldPolynomial t.1) (λ t. ProductWithin power_limit a t.1) fs hf within))
+        joined-all IsHeldPartition IsLaurent (ProductWithin power_limit a) nought_laurent
+        (nothing_within power_limit a) es fs
+        (all_mono (λ t. IsHeldPartition t.0 × IsHeldPolynomial t.1) (λ t. IsHeldPartition t.0 × IsLaurent t.1) es
+        (λ t h. (h.0, h.1.laurent)) he)
+        (all_mono (λ t. (IsHeldPartition t.0 × IsHeldPolynomial t.1) × ProductWithin power_limit a t.1)
+        (λ t. IsHeldPartition t.0 × ProductWithin power_limit a t.1) fs (λ t h. (h.0.0, h.1))
+        (all_both (λ t. IsHeldPartition t.0 × IsHeldPolynomial t.1)
+        (λ t. ProductWithin power_limit a t.1) fs hf within))
 
 -- 0 and a multiple of 0
 added_nought : (a : Laurent) → added a [] [] ≡ []
@@ -56,9 +61,6 @@ sum_entries n a es fs he hf = combined-entries n (added a) (added_nought a) es f
 
 -- ---- by what is kept of both vectors
 
-abbrev pub AllFit : ℕ → ℕ → List Joint → Type 0
-AllFit factor limit js = AllByRecursion (λ j. size j.first + factor * size j.second ≤ limit) js
-
 pub fit_moved : (limit s t : ℕ) (js ks : List Joint) → s ≡ t → js ≡ ks → AllFit s limit js → AllFit t limit ks
 fit_moved limit s t js ks e f h = subst (AllFit t limit) f (subst (λ n. AllFit n limit js) e h)
 
@@ -66,20 +68,21 @@ module _ (v w : FockVector) (hv : IsHeld v) (hw : IsHeld w) (one_degree : v.degr
   second : IsVector v.degree w.entries
   second = subst (λ n. IsVector n w.entries) (sym one_degree) hw.vector
 
-  pub weight_tested : (limit : ℕ) → (addition_weight v.degree (vector_of v.entries) a (vector_of w.entries) ≤ limit)
+  pub weight_tested : (limit : ℕ) → (scaled_sum_weight v a w ≤ limit)
       ↔ AllFit (size a) limit (joined v.entries w.entries)
   weight_tested limit = weight_within v.degree limit a v.entries w.entries hv.vector second
 
   pub can_add_vectors : (limit : ℕ) → AllByRecursion (λ t. ProductWithin power_limit a t.1) w.entries
-      → addition_weight v.degree (vector_of v.entries) a (vector_of w.entries) ≤ limit
+      → scaled_sum_weight v a w ≤ limit
       → AllByRecursion (CanAdd a limit) (joined v.entries w.entries)
   can_add_vectors limit within fits =
       can_add limit a v.entries w.entries hv.pairs hw.pairs within ((weight_tested limit).0 fits)
 
-  pub sum_of_vectors : combined (added a) (joined v.entries w.entries) ≡ entries v.degree (plus_scaled (vector_of v.entries) a (vector_of w.entries))
+  pub sum_of_vectors : combined (added a) (joined v.entries w.entries) ≡ (scaled_sum v a w).entries
   sum_of_vectors = sum_entries v.degree a v.entries w.entries hv.vector second
 
-  pub held_sum : (sums : Entries) → sums ≡ combined (added a) (joined v.entries w.entries) → ArePairs sums → IsHeld (held_as v.degree sums)
+  pub held_sum : (sums : Entries) → sums ≡ combined (added a) (joined v.entries w.entries) → ArePairs sums
+      → IsHeld (held_as v.degree sums)
   held_sum sums e pairs = record {
     vector = subst (IsVector v.degree) (sym (e ∙ sum_of_vectors))
         (IsVector-entries v.degree (plus_scaled (vector_of v.entries) a (vector_of w.entries))

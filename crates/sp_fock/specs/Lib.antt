@@ -1,7 +1,6 @@
 pub mod Held
 pub mod Terms
 pub mod Walk
-pub mod Shim
 pub mod Fault
 pub mod Sum
 pub mod Print

@@ -3,7 +3,7 @@ ghost use Rattle.std.specs.Prelude.{◌≡◌};
 ghost use Rattle.sp_fock.specs.Fault.{fault_of};
 ghost use Rattle.sp_fock.specs.declared.fault.FockFault.TheVariants.{Memory};
 
-use crate::shim::LaurentFault;
+use sp_laurent::LaurentFault;
 use std::alloc::AllocError;
 use thiserror::Error;
 

@@ -1,8 +1,8 @@
 // Two ascending lists of pairs, walked together.
-ghost use Rattle.std.specs.Prelude.{◌≡◌, [], ◌+◌, ◌*◌, ◌^◌, ◌<◌, ◌≤◌, ◌↔◌, ◌∷◌, IsTrue, MatchOption};
-ghost use Rattle.std.specs.List.{AllByRecursion};
+ghost use Rattle.std.specs.Prelude.{◌≡◌, [], ◌+◌, ◌*◌, ◌^◌, ◌<◌, ◌≤◌, ◌↔◌, ◌∷◌, IsTrue, IfNone, IfSome};
 ghost use Rattle.std.specs.Iterator.{item_count, YieldsFirstBy};
 ghost use Rattle.sp_defs.specs.Laurent.{size};
+ghost use Rattle.sp_fock.specs.Sum.{AllFit};
 ghost use Rattle.sp_fock.specs.Walk.{joint_of, shown, walk_of};
 ghost use Rattle.sp_fock_law.specs.Joined.{joint, joined};
 
@@ -69,7 +69,8 @@ fn next_joint<'a>(
         &'a [(Partition, Laurent)],
     ),
 >
-    ensures { MatchOption result (joined first.now second.now ≡ []) (λ r. joined first.now second.now ≡ joint_of r.0 ∷ joined r.1.now r.2.now) }
+    ensures none { IfNone result (joined first.now second.now ≡ []) }
+    ensures some { IfSome result (λ r. joined first.now second.now ≡ joint_of r.0 ∷ joined r.1.now r.2.now) }
 {
     match (first.split_first(), second.split_first()) {
         (None, None) => None,
@@ -125,7 +126,7 @@ pub(crate) fn all_fit(
     second: &[(Partition, Laurent)],
     limit: u128,
 ) -> bool
-    ensures { IsTrue result ↔ AllByRecursion (λ j. size j.first + factor * size j.second ≤ limit) (joined first.now second.now) }
+    ensures { IsTrue result ↔ AllFit factor limit (joined first.now second.now) }
 {
     for joint in (Joined { first, second }) {
         if !joint.fits(factor, limit) {

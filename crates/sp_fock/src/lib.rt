@@ -3,7 +3,6 @@
 
 mod fault;
 mod joined;
-mod shim;
 mod sums;
 mod terms;
 mod text;
@@ -12,3 +11,6 @@ mod vector;
 pub use fault::FockFault;
 pub use terms::Terms;
 pub use vector::Vector;
+
+#[cfg(test)]
+mod tests;

@@ -8,7 +8,6 @@ ghost use Rattle.sp_fock.specs.Walk.{joint_of, shown};
 
 use crate::FockFault;
 use crate::joined::{Joined, Joint};
-use crate::shim;
 use sp_laurent::Laurent;
 use sp_partition::Partition;
 use std::alloc::{AllocError, Global};
@@ -24,7 +23,7 @@ impl<'a> Joint<'a> {
     {
         let mut sum = copy_of(alloc, self.first)?;
         if let Some(second) = self.second {
-            shim::add_scaled(&mut sum, alloc, factor, second, limit)?;
+            sum.add_scaled(alloc, factor, second, limit)?;
         }
         Ok(sum)
     }
@@ -35,7 +34,7 @@ fn copy_of(alloc: Global, polynomial: Option<&Laurent>) -> Result<Laurent, Alloc
     ensures { IfOk result (λ copy. copy ≡ shown polynomial.entry) }
 {
     match polynomial {
-        Some(p) => shim::copy(p, alloc),
+        Some(p) => p.copy(alloc),
         None => Ok(Laurent::zero(alloc)),
     }
 }

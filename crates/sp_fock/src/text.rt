@@ -1,10 +1,11 @@
 // The canonical text of a vector.
 ghost use Rattle.std.specs.Prelude.{◌≡◌, ◌++◌, ◌↔◌, take, length, flat_map, true, IsTrue, OnOk, OnErr};
 ghost use Rattle.sp_fock.specs.Print.{first_entry_text};
-ghost use Rattle.sp_defs.specs.Text.{entry_text, factor_text, has_minus as has_minus_of, next_entry_text, vector_text, written};
+ghost use Rattle.sp_defs.specs.Text.{entry_text, factor_text, next_entry_text, vector_text, written};
+ghost use Rattle.sp_defs.specs.Text.{has_minus as has_minus_of};
 
-use crate::{shim, Terms, Vector};
-use sp_laurent::Laurent;
+use crate::{Terms, Vector};
+use sp_laurent::{Laurent, print_term};
 use sp_partition::Partition;
 use std::alloc::{AllocError, Global};
 
@@ -52,7 +53,12 @@ fn put_rest(alloc: Global, out: &mut Vec<u8>, terms: Terms<'_>) -> Result<(), Al
     Ok(())
 }
 
-fn put_first_entry(alloc: Global, out: &mut Vec<u8>, at: &Partition, coefficient: &Laurent) -> Result<(), AllocError>
+fn put_first_entry(
+    alloc: Global,
+    out: &mut Vec<u8>,
+    at: &Partition,
+    coefficient: &Laurent,
+) -> Result<(), AllocError>
     ensures text { OnOk result (out.new.items ≡ out.old.items ++ first_entry_text (at.now, coefficient.now)) }
     ensures kept { OnErr result (take (length out.old.items) out.new.items ≡ out.old.items) }
 {
@@ -61,7 +67,12 @@ fn put_first_entry(alloc: Global, out: &mut Vec<u8>, at: &Partition, coefficient
     put_entry(alloc, out, at, coefficient)
 }
 
-fn put_next_entry(alloc: Global, out: &mut Vec<u8>, at: &Partition, coefficient: &Laurent) -> Result<(), AllocError>
+fn put_next_entry(
+    alloc: Global,
+    out: &mut Vec<u8>,
+    at: &Partition,
+    coefficient: &Laurent,
+) -> Result<(), AllocError>
     ensures text { OnOk result (out.new.items ≡ out.old.items ++ next_entry_text (at.now, coefficient.now)) }
     ensures kept { OnErr result (take (length out.old.items) out.new.items ≡ out.old.items) }
 {
@@ -70,7 +81,12 @@ fn put_next_entry(alloc: Global, out: &mut Vec<u8>, at: &Partition, coefficient:
     put_entry(alloc, out, at, coefficient)
 }
 
-fn put_entry(alloc: Global, out: &mut Vec<u8>, at: &Partition, coefficient: &Laurent) -> Result<(), AllocError>
+fn put_entry(
+    alloc: Global,
+    out: &mut Vec<u8>,
+    at: &Partition,
+    coefficient: &Laurent,
+) -> Result<(), AllocError>
     ensures text { OnOk result (out.new.items ≡ out.old.items ++ entry_text (at.now, coefficient.now)) }
     ensures kept { OnErr result (take (length out.old.items) out.new.items ≡ out.old.items) }
 {
@@ -88,10 +104,10 @@ fn put_factor(alloc: Global, out: &mut Vec<u8>, coefficient: &Laurent) -> Result
 {
     match coefficient.terms() {
         [] | [(0, 1 | -1)] => Ok(()),
-        [(power, constant)] => shim::put_term(alloc, out, *power, *constant),
+        [term] => print_term(out, *term),
         _ => {
             out.push(b'(')?;
-            shim::print(coefficient, alloc, out)?;
+            coefficient.print(alloc, out)?;
             out.push(b')')?;
             Ok(())
         }

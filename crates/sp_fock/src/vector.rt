@@ -1,17 +1,16 @@
 // A vector is kept as the ascending list of its partitions and polynomials.
-ghost use Rattle.std.specs.Prelude.{◌≡◌, ◌≢◌, ◌^◌, ◌<◌, ◌≤◌, ◌↔◌, [], reverse, IsErrOf, IsTrue, IfOk, OnOk, OnErr, MatchOption};
+ghost use Rattle.std.specs.Prelude.{◌≡◌, ◌^◌, ◌<◌, ◌≤◌, ◌↔◌, [], reverse, IsErrOf, IsTrue, IsNone, IfSome, IfOk, OnOk, OnErr};
 ghost use Rattle.std.specs.List.{AllByRecursion};
 ghost use Rattle.sp_defs.specs.Partition.{degree as degree_of};
 ghost use Rattle.sp_defs.specs.Power.{fock_vector, unit, vector_of};
-ghost use Rattle.sp_fock_law.specs.Joined.{plus_scaled, addition_weight};
+ghost use Rattle.sp_fock_law.specs.Addition.{scaled_sum, scaled_sum_weight};
 ghost use Rattle.sp_laurent.specs.Held.{power_limit};
-ghost use Rattle.sp_fock.specs.Shim.{ProductWithin};
+ghost use Rattle.sp_defs.specs.Within.{ProductWithin};
 ghost use Rattle.sp_fock.specs.Held.{IsHeld, held_as};
 
 use crate::joined::all_fit;
 use crate::sums::sum_of;
 use crate::{FockFault, Terms};
-use crate::shim;
 use sp_laurent::Laurent;
 use sp_partition::Partition;
 use std::alloc::{AllocError, Global};
@@ -83,7 +82,8 @@ impl Vector {
 
     /// The polynomial at `p`, or None where it is 0.
     pub fn coefficient(&self, p: &Partition) -> Option<&Laurent>
-        ensures { MatchOption result (vector_of self.now.entries p.now ≡ []) (λ q. (q.now ≡ vector_of self.now.entries p.now) × (q.now ≢ [])) }
+        ensures none { IsNone result ↔ (vector_of self.now.entries p.now ≡ []) }
+        ensures some { IfSome result (λ q. q.now ≡ vector_of self.now.entries p.now) }
     {
         match self.pairs.binary_search_by(|pair| pair.0.cmp(p)) {
             Ok(place) => Some(&self.pairs[place].1),
@@ -104,7 +104,7 @@ impl Vector {
     {
         let mut pairs = Vec::new(alloc);
         for pair in &self.pairs {
-            pairs.push((pair.0, shim::copy(&pair.1, alloc)?))?;
+            pairs.push((pair.0, pair.1.copy(alloc)?))?;
         }
         Ok(Vector {
             degree: self.degree,
@@ -116,13 +116,19 @@ impl Vector {
     ///
     /// `TooLarge` exactly where, at some partition, the size here and the product of the sizes of `a` and there pass
     /// the limit together. After a refusal the vector is as before.
-    pub fn add_scaled(&mut self, alloc: Global, a: &Laurent, w: &Vector, limit: u128) -> Result<(), FockFault>
+    pub fn add_scaled(
+        &mut self,
+        alloc: Global,
+        a: &Laurent,
+        w: &Vector,
+        limit: u128,
+    ) -> Result<(), FockFault>
         requires one_degree { self.old.degree ≡ w.now.degree }
         requires least { 1 ≤ limit }
         requires most { limit < 2 ^ 127 }
         requires within { AllByRecursion (λ t. ProductWithin power_limit a.now t.1) w.now.entries }
-        ensures ok { OnOk result (self.new ≡ fock_vector self.old.degree (plus_scaled (vector_of self.old.entries) a.now (vector_of w.now.entries))) }
-        ensures too_large { IsErrOf result FockFault.TooLarge ↔ (limit < addition_weight self.old.degree (vector_of self.old.entries) a.now (vector_of w.now.entries)) }
+        ensures ok { OnOk result (self.new ≡ scaled_sum self.old a.now w.now) }
+        ensures too_large { IsErrOf result FockFault.TooLarge ↔ (limit < scaled_sum_weight self.old a.now w.now) }
         ensures kept { OnErr result (self.new ≡ self.old) }
     {
         if !self.sum_fits(a, w, limit) {
@@ -134,7 +140,7 @@ impl Vector {
 
     fn sum_fits(&self, a: &Laurent, w: &Vector, limit: u128) -> bool
         requires { self.now.degree ≡ w.now.degree }
-        ensures { IsTrue result ↔ (addition_weight self.now.degree (vector_of self.now.entries) a.now (vector_of w.now.entries) ≤ limit) }
+        ensures { IsTrue result ↔ (scaled_sum_weight self.now a.now w.now ≤ limit) }
     {
         all_fit(&self.pairs, a.size(), &w.pairs, limit)
     }
@@ -145,8 +151,8 @@ impl Vector {
         requires least { 1 ≤ limit }
         requires most { limit < 2 ^ 127 }
         requires within { AllByRecursion (λ t. ProductWithin power_limit a.now t.1) w.now.entries }
-        requires fits { addition_weight self.now.degree (vector_of self.now.entries) a.now (vector_of w.now.entries) ≤ limit }
-        ensures sum { IfOk result (λ sum. sum ≡ fock_vector self.now.degree (plus_scaled (vector_of self.now.entries) a.now (vector_of w.now.entries))) }
+        requires fits { scaled_sum_weight self.now a.now w.now ≤ limit }
+        ensures sum { IfOk result (λ sum. sum ≡ scaled_sum self.now a.now w.now) }
         ensures fits { ¬ IsErrOf result FockFault.TooLarge }
     {
         Ok(Vector {

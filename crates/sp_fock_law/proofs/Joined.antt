@@ -23,21 +23,18 @@ use Rattle.std.proofs.Common.{
   ap₂,
   subst,
   arith,
-  Ordering,
-  Less,
-  Equal,
-  Greater,
 }
 use Rattle.std.specs.List.{AllByRecursion}
 use Rattle.std.specs.Ordering.{match_ordering}
-use Rattle.sp_defs.specs.Partition.{compare, partitions, Ascending, IsEarlier}
+use Rattle.sp_defs.specs.Partition.{partitions, Ascending, IsEarlier}
 use Rattle.sp_defs.specs.Laurent.{Laurent, size}
 use Rattle.sp_defs.specs.Power.{Vector, Entries, vector_of, entries, IsVector}
 use Rattle.sp_lists.proofs.Elements.{all_filter, all_map, map_all}
 use Rattle.sp_lists.proofs.Greatest.{greatest_exactly}
 use Rattle.sp_shapes.proofs.Order.{later_than, equal_self, all_mono}
 use Rattle.sp_shapes.proofs.Listing.{partitions_ascend}
-use Rattle.sp_fock_law.specs.Joined.{Joint, joint, joined, joined_from, is_nonzero, combined, addition_weight}
+use Rattle.sp_fock_law.specs.Joined.{Joint, joint, joined, joined_from, is_nonzero, combined}
+use Rattle.sp_fock_law.specs.Addition.{addition_weight}
 use Rattle.sp_fock_law.proofs.Vectors.{AllLater, entries_at, all_at, nonzero_or_nil, entries-vector_of}
 
 -- ---- one step of the walk

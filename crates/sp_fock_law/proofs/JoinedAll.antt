@@ -1,5 +1,5 @@
 -- What holds of each entry of two lists holds of each partition of the walk along both.
-use Rattle.std.proofs.Common.{◌≡◌, ℕ, List, [], ◌∷◌, Ordering, Less, Equal, Greater}
+use Rattle.std.proofs.Common.{ℕ, List, [], ◌∷◌, Less, Equal, Greater}
 use Rattle.std.specs.List.{AllByRecursion}
 use Rattle.std.specs.Ordering.{match_ordering}
 use Rattle.sp_defs.specs.Partition.{compare}
@@ -29,13 +29,15 @@ module _ (A : List ℕ → Type 0) (P Q : Laurent → Type 0) (first_nought : P 
   all_from e rest a p more [] h = (record { partition = a; first = p; second = second_nought }, more [] tt)
   all_from e rest a p more (f ∷ fs) (h, hs) =
       elim (compare e.0 f.0) as (λ o. AllByRecursion (HoldsOfBoth A P Q)
-      (match_ordering o (joint e.0 e.1 [] ∷ rest (f ∷ fs)) (joint e.0 e.1 f.1 ∷ rest fs) (joint f.0 [] f.1 ∷ joined_from e rest fs))) [
+      (match_ordering o (joint e.0 e.1 [] ∷ rest (f ∷ fs)) (joint e.0 e.1 f.1 ∷ rest fs)
+      (joint f.0 [] f.1 ∷ joined_from e rest fs))) [
         | Less ↦ (record { partition = a; first = p; second = second_nought }, more (f ∷ fs) (h, hs))
         | Equal ↦ (record { partition = a; first = p; second = h.1 }, more fs hs)
         | Greater ↦ (record { partition = h.0; first = first_nought; second = h.1 }, all_from e rest a p more fs hs)
       ]
 
-  pub joined-all : (es fs : Entries) → AllEntries A P es → AllEntries A Q fs → AllByRecursion (HoldsOfBoth A P Q) (joined es fs)
+  pub joined-all : (es fs : Entries) → AllEntries A P es → AllEntries A Q fs
+      → AllByRecursion (HoldsOfBoth A P Q) (joined es fs)
   unfolding joined
   joined-all [] fs h k = only_second fs k
   joined-all (e ∷ es) fs (h, hs) k = all_from e (joined es) h.0 h.1 (λ gs g. joined-all es gs hs g) fs k

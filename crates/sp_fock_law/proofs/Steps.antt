@@ -1,5 +1,22 @@
 -- One step of the walk along two lists, as code takes it: by what stands at the head of each.
-use Rattle.std.proofs.Common.{◌≡◌, ℕ, List, [], ◌∷◌, length, refl, sym, ◌∙◌, ap, ap₂, subst, arith, Ordering, Less, Equal, Greater}
+use Rattle.std.proofs.Common.{
+  ◌≡◌,
+  ℕ,
+  List,
+  [],
+  ◌∷◌,
+  length,
+  refl,
+  sym,
+  ◌∙◌,
+  ap,
+  ap₂,
+  arith,
+  Ordering,
+  Less,
+  Equal,
+  Greater,
+}
 use Rattle.std.specs.Ordering.{match_ordering}
 use Rattle.sp_defs.specs.Partition.{compare}
 use Rattle.sp_defs.specs.Laurent.{Laurent}

@@ -1,9 +1,9 @@
 -- Two ascending lists of entries, walked together.
-use Rattle.std.specs.Prelude.{ℕ, ◌+◌, ◌*◌, Bool, nat_lt, List, [], ◌∷◌, map, filter, length}
+use Rattle.std.specs.Prelude.{ℕ, Bool, nat_lt, List, [], ◌∷◌, map, filter, length}
 use Rattle.std.specs.Ordering.{match_ordering}
-use Rattle.sp_defs.specs.Partition.{compare, partitions}
-use Rattle.sp_defs.specs.Laurent.{Laurent, plus, times, size}
-use Rattle.sp_defs.specs.Power.{Vector, Entries, greatest}
+use Rattle.sp_defs.specs.Partition.{compare}
+use Rattle.sp_defs.specs.Laurent.{Laurent}
+use Rattle.sp_defs.specs.Power.{Entries}
 
 -- A partition, with the polynomials that two vectors have there.
 pub record Joint : Type 0 where
@@ -35,11 +35,3 @@ is_nonzero p = nat_lt 0 (length p)
 -- The entries of a vector whose polynomial at each partition is `h` of the two.
 abbrev pub combined : (Laurent → Laurent → Laurent) → List Joint → Entries
 combined h js = filter (λ t. is_nonzero t.1) (map (λ j. (j.at, h j.first j.second)) js)
-
--- v with a times w added.
-abbrev pub plus_scaled : Vector → Laurent → Vector → Vector
-plus_scaled v a w lambda = plus (v lambda) (times a (w lambda))
-
--- The greatest sum of the sizes that occur where a times w is added to v: past the limit the sum is too large.
-abbrev pub addition_weight : ℕ → Vector → Laurent → Vector → ℕ
-addition_weight n v a w = greatest (map (λ lambda. size (v lambda) + size a * size (w lambda)) (partitions n))

@@ -18,6 +18,7 @@ mod sums;
 mod text;
 
 pub use fault::LaurentFault;
+pub use text::print_term;
 
 /// Powers are at most this far from 0.
 pub const POWER_LIMIT: i32 = 1_000_000_000;

@@ -39,9 +39,9 @@ fn print_factor(out: &mut Vec<u8>, number: u128) -> Result<(), AllocError>
     }
 }
 
-// A term without its sign.
+/// Appends a term without its sign. Where memory fails, a part of it may be appended.
 #[tactic(auto, unfolding(sp_defs::specs::Text::term_text))]
-fn print_term(out: &mut Vec<u8>, term: Term) -> Result<(), AllocError>
+pub fn print_term(out: &mut Vec<u8>, term: Term) -> Result<(), AllocError>
     ensures ok { OnOk result (out.new.items ≡ out.old.items ++ term_text term) }
     ensures grown { IsGrown out.old.items out.new.items }
 {

@@ -11,5 +11,6 @@ invariant-loop-joint l =
     (goal.iterator-loop-joint).can_next l.joint-iterator
     × (goal.iterator-loop-joint).is_finite l.joint-iterator
     × AllByRecursion (CanAdd l.factor l.limit) (walk_of l.joint-iterator)
-    × (l.sums.items ++ combined (added l.factor) (walk_of l.joint-iterator) ≡ combined (added l.factor) (joined l.first l.second))
+    × (l.sums.items ++ combined (added l.factor) (walk_of l.joint-iterator) ≡ combined (added l.factor)
+    (joined l.first l.second))
     × ArePairs l.sums.items

@@ -1,4 +1,4 @@
-use Rattle.std.proofs.Common.{◌≡◌, [], sym, ◌∙◌, ap, ap₂}
+use Rattle.std.proofs.Common.{sym, ◌∙◌, ap, ap₂}
 use Rattle.sp_algebra.proofs.Laws.{plus_nought, times_nought}
 use Rattle.sp_defs.specs.Laurent.{Laurent, plus, times}
 use Rattle.sp_fock.specs.Sum.{added}
