@@ -1,14 +1,15 @@
 -- One mark down a signature: what is left to choose from below it.
-use Rattle.std.proofs.Common.{◌≡◌, ◌≢◌, ℕ, zero, suc, ◌+◌, ◌-◌, ◌<◌, ◌≤◌, true, List, [], ◌∷◌, ◌++◌, map, length, take, drop, get_or}
-use Rattle.std.proofs.Common.{append_assoc, append-nil, refl, sym, ◌∙◌, ap, ap₂, subst, arith, ℤ, pos, ◌+ℤ◌, ◌-ℤ◌, ◌⊎◌, inl, inr}
+use Rattle.std.proofs.Common.{◌≡◌, ◌≢◌, ℕ, zero, suc, ◌+◌, ◌-◌, ◌<◌, ◌≤◌, true, List, [], ◌∷◌, ◌++◌, map, length, take}
+use Rattle.std.proofs.Common.{drop, get_or}
+use Rattle.std.proofs.Common.{append_assoc, append-nil, refl, sym, ◌∙◌, ap, ap₂, subst, arith, ℤ, pos, ◌+ℤ◌, ◌-ℤ◌, ◌⊎◌}
+use Rattle.std.proofs.Common.{inl, inr}
 use Rattle.sp_defs.specs.Partition.{part, degree}
 use Rattle.sp_defs.specs.Node.{is_addable}
-use Rattle.sp_defs.specs.Signature.{Mark as Marked, grow}
+use Rattle.sp_defs.specs.Signature.{grow}
 use Rattle.sp_lists.proofs.Elements.{le_or_lt}
 use Rattle.sp_shapes.proofs.Corners.{addable_row}
 use Rattle.sp_shapes.proofs.Grow.{degree-grow}
 use Rattle.sp_shapes.proofs.Regular.{index_short}
-use Rattle.sp_nodes.specs.declared.corners.Corner.{Corner}
 use Rattle.sp_nodes.specs.declared.corners.Corner.TheVariants.{Addable, Removable}
 use Rattle.sp_nodes.specs.declared.corners.Mark.{Mark}
 use Rattle.sp_nodes.specs.Nodes.{pair}
@@ -54,20 +55,25 @@ moves-no_marks [] (suc left) p d x short some = refl
 moves-no_marks (m ∷ ms) (suc left) p d x short some = absurd (omega arith)
 
 -- at an addable node: those with it, and those without it
-pub moves-addable : (ms : List Mark) (left : ℕ) (p : List ℕ) (d x : ℤ) → 1 ≤ length ms → left ≢ 0 → (first_of ms).corner ≡ Addable →
-    moves_through (map mark_of ms) left p d x ≡ moves_through (map mark_of (below ms)) (left - 1) (grow ((first_of ms).node.row - 1) p) d (x +ℤ d) ++ moves_through (map mark_of (below ms)) left p (d +ℤ pos 1) x
+pub moves-addable : (ms : List Mark) (left : ℕ) (p : List ℕ) (d x : ℤ) → 1 ≤ length ms → left ≢ 0 →
+    (first_of ms).corner ≡ Addable →
+    moves_through (map mark_of ms) left p d x ≡ moves_through (map mark_of (below ms)) (left - 1)
+    (grow ((first_of ms).node.row - 1) p) d (x +ℤ d) ++ moves_through (map mark_of (below ms)) left p
+    (d +ℤ pos 1) x
 unfolding moves_through
 moves-addable ms zero p d x long some is = absurd (some refl)
 moves-addable [] (suc left) p d x long some is = absurd (omega arith)
 moves-addable (m ∷ ms) (suc left) p d x long some is =
     ap (λ c. moves_through ((letter c, pair m.node) ∷ map mark_of ms) (suc left) p d x) is
-    ∙ ap₂ (λ l n. moves_through (map mark_of l) n (grow (m.node.row - 1) p) d (x +ℤ d) ++ moves_through (map mark_of l) (suc left) p (d +ℤ pos 1) x) (sym (below-cons m ms)) (one_less left)
+    ∙ ap₂ (λ l n. moves_through (map mark_of l) n (grow (m.node.row - 1) p) d (x +ℤ d) ++ moves_through
+    (map mark_of l) (suc left) p (d +ℤ pos 1) x) (sym (below-cons m ms)) (one_less left)
   where
     one_less : (n : ℕ) → n ≡ suc n - 1
     one_less n = omega arith
 
 -- at a removable one: those below it
-pub moves-removable : (ms : List Mark) (left : ℕ) (p : List ℕ) (d x : ℤ) → 1 ≤ length ms → left ≢ 0 → (first_of ms).corner ≡ Removable →
+pub moves-removable : (ms : List Mark) (left : ℕ) (p : List ℕ) (d x : ℤ) → 1 ≤ length ms → left ≢ 0 →
+    (first_of ms).corner ≡ Removable →
     moves_through (map mark_of ms) left p d x ≡ moves_through (map mark_of (below ms)) left p (d -ℤ pos 1) x
 unfolding moves_through
 moves-removable ms zero p d x long some is = absurd (some refl)
@@ -88,7 +94,8 @@ pub record Growing (ms : List Mark) (p : List ℕ) : Type 0 where
   pub chosen : CanGrow (map mark_of (below ms)) (grow ((first_of ms).node.row - 1) p)
   pub passed : CanGrow (map mark_of (below ms)) p
 
-pub grow-addable : (ms : List Mark) (p : List ℕ) → 1 ≤ length ms → (first_of ms).corner ≡ Addable → CanGrow (map mark_of ms) p → Growing ms p
+pub grow-addable : (ms : List Mark) (p : List ℕ) → 1 ≤ length ms → (first_of ms).corner ≡ Addable →
+    CanGrow (map mark_of ms) p → Growing ms p
 grow-addable [] p long is h = absurd (omega arith)
 grow-addable (m ∷ ms) p long is h =
     let g = subst (λ c. CanGrow ((letter c, pair m.node) ∷ map mark_of ms) p) is h in
@@ -98,10 +105,12 @@ grow-addable (m ∷ ms) p long is h =
       passed = subst (λ l. CanGrow (map mark_of l) p) (sym (below-cons m ms)) g.2;
     }
 
-pub grow-removable : (ms : List Mark) (p : List ℕ) → 1 ≤ length ms → (first_of ms).corner ≡ Removable → CanGrow (map mark_of ms) p → CanGrow (map mark_of (below ms)) p
+pub grow-removable : (ms : List Mark) (p : List ℕ) → 1 ≤ length ms → (first_of ms).corner ≡ Removable →
+    CanGrow (map mark_of ms) p → CanGrow (map mark_of (below ms)) p
 grow-removable [] p long is h = absurd (omega arith)
 grow-removable (m ∷ ms) p long is h =
-    subst (λ l. CanGrow (map mark_of l) p) (sym (below-cons m ms)) (subst (λ c. CanGrow ((letter c, pair m.node) ∷ map mark_of ms) p) is h)
+    subst (λ l. CanGrow (map mark_of l) p) (sym (below-cons m ms))
+    (subst (λ c. CanGrow ((letter c, pair m.node) ∷ map mark_of ms) p) is h)
 
 -- ---- sizes
 
@@ -119,18 +128,24 @@ pub length-below : (ms : List Mark) → 1 ≤ length ms → length (below ms) + 
 length-below [] long = absurd (omega arith)
 length-below (m ∷ ms) long = omega (arith, ap length (below-cons m ms))
 
-pub exponent_room : (x d y : ℤ) (left n : ℕ) → y ≡ x +ℤ d → unsigned_abs d + n ≤ 33 → unsigned_abs x + left * 33 ≤ 2000 → left ≢ 0 → unsigned_abs y + (left - 1) * 33 ≤ 2000
+pub exponent_room : (x d y : ℤ) (left n : ℕ) → y ≡ x +ℤ d → unsigned_abs d + n ≤ 33 →
+    unsigned_abs x + left * 33 ≤ 2000 → left ≢ 0 → unsigned_abs y + (left - 1) * 33 ≤ 2000
 exponent_room x d y left n e h k some = omega (arith, ints)
 
 -- ---- what was added
 
-pub arrivals-none : (old : List Arrival) (source : ℕ) (xs : List Reached) → xs ≡ [] → old ≡ old ++ map (arrive_from source) xs
+pub arrivals-none : (old : List Arrival) (source : ℕ) (xs : List Reached) → xs ≡ [] →
+    old ≡ old ++ map (arrive_from source) xs
 arrivals-none old source xs h = sym (append-nil old) ∙ ap (λ l. old ++ map (arrive_from source) l) (sym h)
 
-pub arrivals-both : (old new last : List Arrival) (source : ℕ) (xs ys zs : List Reached) → new ≡ old ++ map (arrive_from source) xs → last ≡ new ++ map (arrive_from source) ys → zs ≡ xs ++ ys → last ≡ old ++ map (arrive_from source) zs
+pub arrivals-both : (old new last : List Arrival) (source : ℕ) (xs ys zs : List Reached) →
+    new ≡ old ++ map (arrive_from source) xs → last ≡ new ++ map (arrive_from source) ys → zs ≡ xs ++ ys →
+    last ≡ old ++ map (arrive_from source) zs
 arrivals-both old new last source xs ys zs h k e =
-    k ∙ ap (λ l. l ++ map (arrive_from source) ys) h ∙ append_assoc old (map (arrive_from source) xs) (map (arrive_from source) ys)
-    ∙ ap (λ l. old ++ l) (sym (map-append (arrive_from source) xs ys)) ∙ ap (λ l. old ++ map (arrive_from source) l) (sym e)
+    k ∙ ap (λ l. l ++ map (arrive_from source) ys) h
+    ∙ append_assoc old (map (arrive_from source) xs) (map (arrive_from source) ys)
+    ∙ ap (λ l. old ++ l) (sym (map-append (arrive_from source) xs ys))
+    ∙ ap (λ l. old ++ map (arrive_from source) l) (sym e)
 
 -- an exponent in the type of the code
 pub read_exponent : (x : ℤ) → unsigned_abs x ≤ 2000 → to_z w32 (of_z w32 x) ≡ x

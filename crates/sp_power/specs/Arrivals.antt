@@ -1,11 +1,14 @@
 -- What the moves from one partition are as arrivals, and what a node that is passed counts.
-use Rattle.std.specs.Prelude.{ℕ, ◌+◌, ◌<◌, ◌≤◌, List, length, unsigned_abs, ℤ, pos, ◌+ℤ◌, ◌-ℤ◌}
+use Rattle.std.specs.Prelude.{ℕ, ◌+◌, ◌<◌, ◌≤◌, List, map, length, unsigned_abs, ℤ, pos, ◌+ℤ◌, ◌-ℤ◌}
 use Rattle.std.specs.List.{AllByRecursion}
 use Rattle.sp_defs.specs.Partition.{degree, order, IsPartition}
 use Rattle.sp_defs.specs.Laurent.{Laurent}
 use Rattle.sp_defs.specs.Signature.{Letter, Addable, Removable}
 use Rattle.sp_partition.specs.Held.{IsHeld as IsHeldPartition}
-use Rattle.sp_power_law.specs.Walk.{Reached}
+use Rattle.sp_nodes.specs.declared.corners.Mark.{Mark}
+use Rattle.sp_nodes.specs.Marks.{mark_of}
+use Rattle.sp_power.specs.declared.moves.Way.{Way}
+use Rattle.sp_power_law.specs.Walk.{Reached, moves_through}
 use Rattle.std.specs.List.Sorted.{IsPermutation, IsSortedByKey}
 use Rattle.sp_defs.specs.Power.{Entries, IsVector}
 use Rattle.sp_defs.specs.Within.{PowersWithin}
@@ -14,6 +17,11 @@ use Rattle.sp_power_law.specs.Runs.{Arrival, arrivals, polynomial_at}
 -- A move from the pair at this place.
 abbrev pub arrive_from : ℕ → Reached → Arrival
 arrive_from source t = (t.0, source, t.1)
+
+-- The moves from this pair that choose m more nodes, down these marks, from a way so far.
+abbrev pub found_from : ℕ → List Mark → ℕ → Way → List Arrival
+found_from source marks m way =
+    map (arrive_from source) (moves_through (map mark_of marks) m way.partition way.difference way.exponent)
 
 -- The difference once a node is passed.
 abbrev pub passed : Letter → ℤ → ℤ

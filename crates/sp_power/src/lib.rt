@@ -8,3 +8,6 @@ mod runs;
 
 pub use fault::PowerFault;
 pub use power::induce;
+
+#[cfg(test)]
+mod tests;

@@ -1,16 +1,17 @@
 // All moves from a partition, down its signature: each addable node is chosen or passed.
-ghost use Rattle.std.specs.Prelude.{◌≡◌, ℕ, ◌+◌, ◌-◌, ◌*◌, ◌<◌, ◌≤◌, true, List, ◌++◌, map, length, IfOk, OnOk, unsigned_abs, pos, ◌+ℤ◌};
+ghost use Rattle.std.specs.Prelude.{◌≡◌, ◌+◌, ◌-◌, ◌*◌, ◌<◌, ◌≤◌, true, ◌++◌, map, length, IfOk, OnOk};
+ghost use Rattle.std.specs.Prelude.{unsigned_abs, pos, ◌+ℤ◌};
+ghost use Rattle.std.specs.List.{AllByRecursion};
 ghost use Rattle.sp_defs.specs.Partition.{degree as degree_of, part as part_of};
 ghost use Rattle.sp_defs.specs.Node.{is_addable};
 ghost use Rattle.sp_defs.specs.Signature.{grow};
 ghost use Rattle.sp_nodes.specs.Marks.{letter, mark_of};
-ghost use Rattle.sp_power_law.specs.Walk.{moves_through, CanGrow};
+ghost use Rattle.sp_power_law.specs.Walk.{CanGrow};
 ghost use Rattle.sp_power_law.specs.Runs.{arrivals};
-ghost use Rattle.sp_power.specs.Arrivals.{arrive_from, passed, HasRoom};
-ghost use Rattle.std.specs.List.{AllByRecursion};
+ghost use Rattle.sp_power.specs.Arrivals.{found_from, passed, HasRoom};
 
 use sp_laurent::Laurent;
-use sp_nodes::{marks, Corner, Mark};
+use sp_nodes::{Corner, Mark, marks};
 use sp_partition::Partition;
 use std::alloc::{AllocError, Global};
 use std::marker::Model;
@@ -93,7 +94,13 @@ impl Way {
 }
 
 /// All moves of m nodes of residue `i` from the partitions of these pairs.
-pub(crate) fn all_moves(alloc: Global, e: u8, i: u8, m: u8, pairs: &[(Partition, Laurent)]) -> Result<Vec<Arrival>, AllocError>
+pub(crate) fn all_moves(
+    alloc: Global,
+    e: u8,
+    i: u8,
+    m: u8,
+    pairs: &[(Partition, Laurent)],
+) -> Result<Vec<Arrival>, AllocError>
     requires e_least { 2 ≤ e }
     requires e_most { e ≤ 64 }
     requires below { i < e }
@@ -109,12 +116,18 @@ pub(crate) fn all_moves(alloc: Global, e: u8, i: u8, m: u8, pairs: &[(Partition,
 }
 
 // Adds the moves that choose `left` more nodes.
-fn push_moves(arrivals: &mut Vec<Arrival>, source: usize, marks: &[Mark], left: u8, way: &Way) -> Result<(), AllocError>
+fn push_moves(
+    arrivals: &mut Vec<Arrival>,
+    source: usize,
+    marks: &[Mark],
+    left: u8,
+    way: &Way,
+) -> Result<(), AllocError>
     requires grows { CanGrow (map mark_of marks.now) way.now.partition }
     requires room { degree_of way.now.partition + left ≤ 32 }
     requires near { unsigned_abs way.now.difference + length marks.now ≤ 33 }
     requires small { unsigned_abs way.now.exponent + left * 33 ≤ 2000 }
-    ensures { OnOk result (arrivals.new.items ≡ arrivals.old.items ++ map (arrive_from source) (moves_through (map mark_of marks.now) left way.now.partition way.now.difference way.now.exponent)) }
+    ensures { OnOk result (arrivals.new.items ≡ arrivals.old.items ++ found_from source marks.now left way.now) }
 {
     if left == 0 {
         arrivals.push(Arrival {
@@ -130,9 +143,21 @@ fn push_moves(arrivals: &mut Vec<Arrival>, source: usize, marks: &[Mark], left: 
     let mark = *first;
     match mark.corner {
         Corner::Addable => {
-            push_moves(arrivals, source, below, left - 1, &way.choose(mark.node.row))?;
+            push_moves(
+                arrivals,
+                source,
+                below,
+                left - 1,
+                &way.choose(mark.node.row),
+            )?;
             push_moves(arrivals, source, below, left, &way.pass(Corner::Addable))
         }
-        Corner::Removable => push_moves(arrivals, source, below, left, &way.pass(Corner::Removable)),
+        Corner::Removable => push_moves(
+            arrivals,
+            source,
+            below,
+            left,
+            &way.pass(Corner::Removable),
+        ),
     }
 }

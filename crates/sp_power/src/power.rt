@@ -1,15 +1,13 @@
 // The divided power of a vector.
 ghost use Rattle.std.specs.Prelude.{◌≡◌, ℕ, ◌+◌, ◌*◌, ◌^◌, ◌<◌, ◌≤◌, IfOk, OnOk, IsErrOf};
-ghost use Rattle.std.specs.List.{AllByRecursion};
 ghost use Rattle.std.specs.List.Sorted.{IsPermutation, IsSortedByKey};
 ghost use Rattle.sp_defs.specs.Partition.{order};
 ghost use Rattle.sp_defs.specs.Power.{fock_vector, vector_of, divided_power, induction_weight};
-ghost use Rattle.sp_defs.specs.Within.{PowersWithin};
 ghost use Rattle.sp_power.specs.Arrivals.{half_power_limit, AllWithin, AreSorted};
 
-use crate::moves::{all_moves, Arrival};
-use crate::runs::sums;
 use crate::PowerFault;
+use crate::moves::{Arrival, all_moves};
+use crate::runs::sums;
 use sp_fock::Vector;
 use std::alloc::{AllocError, Global};
 
@@ -18,7 +16,14 @@ use std::alloc::{AllocError, Global};
 /// `TooLarge` only where, at some partition, the sizes of the polynomials that reach it sum up to more than the limit,
 /// and a result only where they don't. `e` is from 2 to 64, the degree and m are at most 32 together, and the powers
 /// of the vector are within half of the limit on powers.
-pub fn induce(alloc: Global, e: u8, i: u8, m: u8, v: &Vector, limit: u128) -> Result<Vector, PowerFault>
+pub fn induce(
+    alloc: Global,
+    e: u8,
+    i: u8,
+    m: u8,
+    v: &Vector,
+    limit: u128,
+) -> Result<Vector, PowerFault>
     requires e_least { 2 ≤ e }
     requires e_most { e ≤ 64 }
     requires below { i < e }
@@ -26,10 +31,13 @@ pub fn induce(alloc: Global, e: u8, i: u8, m: u8, v: &Vector, limit: u128) -> Re
     requires powers { AllWithin half_power_limit v.now.entries }
     requires least { 1 ≤ limit }
     requires most { limit < 2 ^ 127 }
-    ensures ok { IfOk result (λ w. w ≡ fock_vector (v.now.degree + m) (divided_power e i m (vector_of v.now.entries))) }
+    ensures ok { IfOk result
+        (λ w. w ≡ fock_vector (v.now.degree + m) (divided_power e i m (vector_of v.now.entries))) }
     ensures fits { OnOk result (induction_weight e i m v.now.degree (vector_of v.now.entries) ≤ limit) }
-    ensures too_large { IsErrOf result PowerFault.TooLarge → limit < induction_weight e i m v.now.degree (vector_of v.now.entries) }
-    ensures powers { IfOk result (λ w. (d : ℕ) → AllWithin d v.now.entries → AllWithin (m * (v.now.degree + 1) + d) w.entries) }
+    ensures too_large { IsErrOf result PowerFault.TooLarge
+        → limit < induction_weight e i m v.now.degree (vector_of v.now.entries) }
+    ensures powers { IfOk result
+        (λ w. (d : ℕ) → AllWithin d v.now.entries → AllWithin (m * (v.now.degree + 1) + d) w.entries) }
 {
     let moves = sorted_moves(alloc, e, i, m, v)?;
     let sums = sums(alloc, v.pairs(), &moves, limit)?;

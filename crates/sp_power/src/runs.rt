@@ -1,5 +1,6 @@
 // Moves in order, taken apart into runs of one partition each, and summed.
-ghost use Rattle.std.specs.Prelude.{◌≡◌, ◌+◌, ◌^◌, ◌<◌, ◌≤◌, ◌↔◌, IsTrue, IfOk, OnOk, IsErrOf, sum_by, nat_lt, length, filter, [], ◌∷◌, ◌++◌};
+ghost use Rattle.std.specs.Prelude.{◌≡◌, ◌+◌, ◌^◌, ◌<◌, ◌≤◌, ◌↔◌, [], ◌∷◌, ◌++◌, IsTrue, IfOk, OnOk, IsErrOf};
+ghost use Rattle.std.specs.Prelude.{sum_by, nat_lt, length, filter};
 ghost use Rattle.std.specs.List.{AllByRecursion, prefix_len};
 ghost use Rattle.sp_defs.specs.Laurent.{plus, sum_over, size};
 ghost use Rattle.sp_defs.specs.Power.{greatest};
@@ -8,8 +9,8 @@ ghost use Rattle.sp_laurent.specs.Held.{IsHeld};
 ghost use Rattle.sp_power_law.specs.Runs.{is_at, runs, share_of, size_of, sums_of, sizes_of};
 ghost use Rattle.sp_power.specs.Arrivals.{IsBrought};
 
-use crate::moves::Arrival;
 use crate::PowerFault;
+use crate::moves::Arrival;
 use sp_laurent::Laurent;
 use sp_partition::Partition;
 use std::alloc::{AllocError, Global};
@@ -28,7 +29,8 @@ pub(crate) fn sums(
     ensures sums { IfOk result (λ sums. sums.items ≡ sums_of pairs.now (runs arrivals.now)) }
     ensures held { IfOk result (λ sums. ArePairs sums.items) }
     ensures fits { OnOk result (greatest (sizes_of pairs.now (runs arrivals.now)) ≤ limit) }
-    ensures too_large { IsErrOf result PowerFault.TooLarge → limit < greatest (sizes_of pairs.now (runs arrivals.now)) }
+    ensures too_large { IsErrOf result PowerFault.TooLarge
+        → limit < greatest (sizes_of pairs.now (runs arrivals.now)) }
 {
     let mut sums = Vec::new(alloc);
     let mut rest = arrivals;
@@ -45,8 +47,13 @@ pub(crate) fn sums(
 }
 
 // Adds a sum that isn't 0.
-fn push_nonzero(sums: &mut Vec<(Partition, Laurent)>, partition: Partition, sum: Laurent) -> Result<(), AllocError>
-    ensures sums { OnOk result (sums.new.items ≡ sums.old.items ++ filter (λ t. nat_lt 0 (length t.1)) ((partition, sum) ∷ [])) }
+fn push_nonzero(
+    sums: &mut Vec<(Partition, Laurent)>,
+    partition: Partition,
+    sum: Laurent,
+) -> Result<(), AllocError>
+    ensures sums { OnOk result
+        (sums.new.items ≡ sums.old.items ++ filter (λ t. nat_lt 0 (length t.1)) ((partition, sum) ∷ [])) }
     ensures held { IsHeld sum }
 {
     if !sum.terms().is_empty() {
@@ -83,7 +90,12 @@ fn run_fits(pairs: &[(Partition, Laurent)], run: &[Arrival], limit: u128) -> boo
 }
 
 // The sum over a run.
-fn run_sum(alloc: Global, pairs: &[(Partition, Laurent)], run: &[Arrival], limit: u128) -> Result<Laurent, PowerFault>
+fn run_sum(
+    alloc: Global,
+    pairs: &[(Partition, Laurent)],
+    run: &[Arrival],
+    limit: u128,
+) -> Result<Laurent, PowerFault>
     requires least { 1 ≤ limit }
     requires most { limit < 2 ^ 127 }
     requires brought { AllByRecursion (IsBrought pairs.now) run.now }

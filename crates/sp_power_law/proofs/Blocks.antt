@@ -1,5 +1,6 @@
 -- A list in order as code takes it apart: the front of one partition is its first run.
-use Rattle.std.proofs.Common.{◌≡◌, ◌≢◌, ℕ, zero, suc, ◌+◌, ◌<◌, ◌≤◌, Bool, true, false, cond, List, [], ◌∷◌, length, take, drop}
+use Rattle.std.proofs.Common.{◌≡◌, ◌≢◌, ℕ, zero, suc, ◌+◌, ◌<◌, ◌≤◌, Bool, true, false, cond, List, [], ◌∷◌, length}
+use Rattle.std.proofs.Common.{take, drop}
 use Rattle.std.proofs.Common.{refl, sym, ◌∙◌, ap, ap₂, subst, arith, get_or, true≢false, ◌⊎◌, inl, inr}
 use Rattle.std.specs.List.{AllByRecursion, prefix_len}
 use Rattle.std.specs.List.Sorted.{IsSortedByKey}
@@ -26,9 +27,11 @@ eq_sym x y h = by_order (compare y x) refl
     by_order : (o : Ordering) → compare y x ≡ o → is_eq o ≡ false
     by_order Less is = refl
     by_order Greater is = refl
-    by_order Equal is = absurd (true≢false (sym (ap is_eq (subst (λ l. compare l y ≡ Equal) (same_lists y x is) (equal_self y))) ∙ h))
+    by_order Equal is =
+        absurd (true≢false (sym (ap is_eq (subst (λ l. compare l y ≡ Equal) (same_lists y x is) (equal_self y))) ∙ h))
 
-alone : (t u : Arrival) (ts : List Arrival) → is_at t.0 u ≡ false → joined t (runs (u ∷ ts)) ≡ (t.0, t ∷ []) ∷ runs (u ∷ ts)
+alone : (t u : Arrival) (ts : List Arrival) → is_at t.0 u ≡ false →
+    joined t (runs (u ∷ ts)) ≡ (t.0, t ∷ []) ∷ runs (u ∷ ts)
 alone t u ts h =
     let b = runs-begin u ts in
     ap (joined t) b.is
@@ -50,8 +53,11 @@ runs-block t (u ∷ ts) = by_test (is_at t.0 u) refl (runs-block u ts)
         joined t (runs (u ∷ ts)) ≡ (t.0, t ∷ take (whole b) (u ∷ ts)) ∷ runs (drop (whole b) (u ∷ ts))
     by_test false is rest = alone t u ts is
     by_test true is rest =
-        ap (joined t) (subst (λ l. runs (u ∷ ts) ≡ (l, u ∷ take (prefix_len (is_at l) ts) ts) ∷ runs (drop (prefix_len (is_at l) ts) ts)) same rest)
-        ∙ ap (λ o. cond (is_eq o) ((t.0, t ∷ u ∷ front) ∷ back) ((t.0, t ∷ []) ∷ (t.0, u ∷ front) ∷ back)) (equal_self t.0)
+        ap (joined t)
+        (subst (λ l. runs (u ∷ ts) ≡ (l, u ∷ take (prefix_len (is_at l) ts) ts) ∷ runs
+        (drop (prefix_len (is_at l) ts) ts)) same rest)
+        ∙ ap (λ o. cond (is_eq o) ((t.0, t ∷ u ∷ front) ∷ back) ((t.0, t ∷ []) ∷ (t.0, u ∷ front) ∷ back))
+        (equal_self t.0)
         ∙ ap (λ n. (t.0, t ∷ take n (u ∷ ts)) ∷ runs (drop n (u ∷ ts))) (sym (one_more (prefix_len (is_at t.0) ts)))
       where
         same : u.0 ≡ t.0
@@ -77,7 +83,8 @@ order_one_degree : (n : ℕ) (x y : List ℕ) → degree x ≡ n → degree y �
 order_one_degree n x y hx hy =
     ap (λ o. ordering_then o (compare x y)) (ap₂ (λ a b. nat_cmp a b) hx hy ∙ tied_itself nat_cmp_total n)
 
-not_before_trans : (x y z : List ℕ) → is_lt (compare y x) ≡ false → is_lt (compare z y) ≡ false → is_lt (compare z x) ≡ false
+not_before_trans : (x y z : List ℕ) → is_lt (compare y x) ≡ false → is_lt (compare z y) ≡ false →
+    is_lt (compare z x) ≡ false
 not_before_trans x y z h k = by (same_or_later x y h) (same_or_later y z k)
   where
     later : IsEarlier x z → is_lt (compare z x) ≡ false
@@ -88,17 +95,23 @@ not_before_trans x y z h k = by (same_or_later x y h) (same_or_later y z k)
     by (inr e) (inl s) = subst (λ l. is_lt (compare l x) ≡ false) s h
     by (inr e) (inr f) = later (less_trans x y z e f)
 
-sorted_tail : (t : Arrival) (ts : List Arrival) → IsSortedByKey (λ t. t.0) order (t ∷ ts) → IsSortedByKey (λ t. t.0) order ts
+sorted_tail : (t : Arrival) (ts : List Arrival) → IsSortedByKey (λ t. t.0) order (t ∷ ts) →
+    IsSortedByKey (λ t. t.0) order ts
 sorted_tail t ts up k d lo hi =
-    subst (λ j. is_lt (order (get_or (t ∷ ts) j d).0 (get_or ts k d).0) ≡ false) (moved k) (up (suc k) d (omega arith) (omega arith))
+    subst (λ j. is_lt (order (get_or (t ∷ ts) j d).0 (get_or ts k d).0) ≡ false) (moved k)
+    (up (suc k) d (omega arith) (omega arith))
   where
     moved : (k : ℕ) → suc k + 1 ≡ suc (k + 1)
     moved k = omega arith
 
-next_in_order : (t u : Arrival) (ts : List Arrival) → is_lt (compare u.0 t.0) ≡ false → InOrder (u ∷ ts) → InOrder (t ∷ u ∷ ts)
+next_in_order : (t u : Arrival) (ts : List Arrival) → is_lt (compare u.0 t.0) ≡ false → InOrder (u ∷ ts) →
+    InOrder (t ∷ u ∷ ts)
 next_in_order t u ts first (later, rest) = (
-  (first, all_mono (λ v. is_lt (compare v.0 u.0) ≡ false) (λ v. is_lt (compare v.0 t.0) ≡ false) ts
-      (λ v after. not_before_trans t.0 u.0 v.0 first after) later),
+  (
+    first,
+    all_mono (λ v. is_lt (compare v.0 u.0) ≡ false) (λ v. is_lt (compare v.0 t.0) ≡ false) ts
+        (λ v after. not_before_trans t.0 u.0 v.0 first after) later,
+  ),
   (later, rest),
 )
 

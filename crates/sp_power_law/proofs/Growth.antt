@@ -22,7 +22,8 @@ module _ (e i : ℕ) (he : 2 ≤ e) (parts : List ℕ) (pp : IsPartition parts) 
     where
       by_case : (a b : Bool) → (a ≡ true → is_addable now (r, part now r + 1) ≡ true) →
           (a ≡ true → CanGrow rest (grow (r - 1) now)) →
-          CanGrow ((cond b ((Removable, (r, part parts r)) ∷ []) [] ++ cond a ((Addable, (r, part parts r + 1)) ∷ []) []) ++ rest) now
+          CanGrow ((cond b ((Removable, (r, part parts r)) ∷ []) [] ++ cond a ((Addable, (r, part parts r + 1)) ∷ [])
+          []) ++ rest) now
       by_case true true f g = (f refl, g refl, passed)
       by_case true false f g = (f refl, g refl, passed)
       by_case false true f g = passed
@@ -35,9 +36,11 @@ module _ (e i : ℕ) (he : 2 ≤ e) (parts : List ℕ) (pp : IsPartition parts) 
       grow_row r (flat_map (row_marks e i parts) (range_with_len (r + 1) n)) now
       (λ can. (and_split (is_addable now (r, part now r + 1)) (nat_eq (residue e (r, part now r + 1)) i)
       (same_addable e i he parts pp r k now d x hr st ∙ can)).0)
-      (λ can. grow_through n (r + 1) (k + 1) (grow (r - 1) now) d _ (omega arith) (choose e i he parts pp r k now d x hr st can))
+      (λ can. grow_through n (r + 1) (k + 1) (grow (r - 1) now) d _ (omega arith)
+      (choose e i he parts pp r k now d x hr st can))
       (grow_through n (r + 1) k now _ x (omega arith) (pass e i he parts pp r k now d x hr st))
 
 pub can_grow : (e i : ℕ) (parts : List ℕ) → 2 ≤ e → IsPartition parts → CanGrow (signature e i parts) parts
 unfolding signature
-can_grow e i parts he pp = grow_through e i he parts pp (length parts + 1) 1 0 parts (pos 0) (pos 0) (omega arith) (start e i parts pp)
+can_grow e i parts he pp =
+    grow_through e i he parts pp (length parts + 1) 1 0 parts (pos 0) (pos 0) (omega arith) (start e i parts pp)

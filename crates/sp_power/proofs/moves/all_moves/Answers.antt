@@ -9,7 +9,7 @@ use Rattle.sp_power.proofs.moves.all_moves.Goals as goal
 pub push_moves-requires-clause-grows : goal.push_moves-requires-clause-grows
 push_moves-requires-clause-grows c =
     let marks : map mark_of c.deref.result.now ≡ signature c.args.e c.args.i c.index-pairs-source.result.0 =
-        ap (map mark_of) c.deref.ensures.0 ∙ c.marks-marks.ensures in
+    ap (map mark_of) c.deref.ensures.0 ∙ c.marks-marks.ensures in
     grows_at c.args.e c.args.i c.args.m c.loop-source.source c.args.pairs.now c.index-pairs-source.result
     (map mark_of c.deref.result.now) c.from.result.partition c.requires.e_least c.loop-source-test.true c.requires.room
     c.index-pairs-source.is marks c.from.ensures.partition
@@ -17,7 +17,7 @@ push_moves-requires-clause-grows c =
 pub loop-source-preserved : goal.loop-source-preserved
 loop-source-preserved c =
     let marks : map mark_of c.deref.result.now ≡ signature c.args.e c.args.i c.index-pairs-source.result.0 =
-        ap (map mark_of) c.deref.ensures.0 ∙ c.marks-marks.ensures in
+    ap (map mark_of) c.deref.ensures.0 ∙ c.marks-marks.ensures in
     found_more c.args.e c.args.i c.args.m c.loop-source.source c.args.pairs.now c.index-pairs-source.result
     c.loop-source.found.items c.push_moves.new.arrivals.items _ c.loop-source-test.true c.index-pairs-source.is
     (c.in_ok-push_moves.ensures

@@ -3,4 +3,5 @@ use Rattle.std.proofs.Common.{rules}
 use Rattle.sp_power.proofs.power.sort_by_partition.Goals as goal
 
 pub returns-clause-sorted : goal.returns-clause-sorted
-returns-clause-sorted c = c.sort_unstable_by_key.ensures.sorted (λ t. t.0) (answers_always _ _ _ (λ f a r g h. search rules))
+returns-clause-sorted c =
+    c.sort_unstable_by_key.ensures.sorted (λ t. t.0) (answers_always _ _ _ (λ f a r g h. search rules))
