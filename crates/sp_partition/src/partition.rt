@@ -1,6 +1,6 @@
 // A partition is a fixed array of parts, seen as its list.
-ghost use Rattle.std.specs.Prelude.{◌≡◌, ◌≢◌, ◌↔◌, ℕ, ◌+◌, ◌-◌, ◌*◌, ◌<◌, ◌≤◌, ◌++◌, [], replicate, IfOk, IfSome};
-ghost use Rattle.std.specs.Prelude.{IsTrue, SomeIff, length, slice_index, sum};
+ghost use Rattle.std.specs.Prelude.{◌≡◌, ◌↔◌, ℕ, ◌+◌, ◌-◌, ◌*◌, ◌<◌, ◌≤◌, ◌++◌, [], replicate, IfOk, IfSome};
+ghost use Rattle.std.specs.Prelude.{IsTrue, SomeIff, length, sum};
 ghost use Rattle.sp_defs.specs.Partition.{degree as degree_of, part as part_of, IsPartition, is_regular as regular};
 ghost use Rattle.sp_defs.specs.Node.{is_addable, is_removable};
 ghost use Rattle.sp_defs.specs.Signature.{grow, shrink};

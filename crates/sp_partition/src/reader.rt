@@ -1,9 +1,9 @@
 // Reads the canonical text of a partition.
-ghost use Rattle.std.specs.Prelude.{◌≡◌, ◌↔◌, ℕ, ◌+◌, ◌*◌, ◌<◌, ◌≤◌, ◌++◌, List, length, min, take, replicate};
-ghost use Rattle.std.specs.Prelude.{slice_index, ◌≢◌, IfOk, IfSome, IsNone, IsTrue, MatchOption, SomeIff};
+ghost use Rattle.std.specs.Prelude.{◌≡◌, ◌↔◌, ℕ, ◌+◌, ◌*◌, ◌<◌, ◌≤◌, List, length, min};
+ghost use Rattle.std.specs.Prelude.{IfOk, IfSome, IsNone, IsTrue};
 ghost use Rattle.std.specs.Option.{option_copied};
 ghost use Rattle.std.specs.Str.Parse.{digits_value};
-ghost use Rattle.sp_defs.specs.Partition.{degree as degree_of, IsPartition};
+ghost use Rattle.sp_defs.specs.Partition.{degree as degree_of};
 ghost use Rattle.sp_defs.specs.Text.{partition_text};
 ghost use Rattle.sp_partition.specs.Grammar.{IsNumber, IsItem, IsList, IsReadAs};
 ghost use Rattle.sp_partition.specs.Pieces.{StandsAt, IsItemOf, IsReadPast, DigitsAt, MayAdd, Adds, ReadsTo, rest_of};

@@ -1,9 +1,9 @@
 // The canonical text of a partition.
-ghost use Rattle.std.specs.Prelude.{◌≡◌, ◌<◌, ◌≤◌, ◌++◌, length, take, drop, slice_index, IfOk, OnOk, OnErr};
+ghost use Rattle.std.specs.Prelude.{◌≡◌, ◌<◌, ◌≤◌, ◌++◌, length, take, drop, IfOk, OnOk, OnErr};
 ghost use Rattle.std.specs.Fmt.{decimal};
 ghost use Rattle.sp_partition.specs.Held.{IsHeld};
 ghost use Rattle.sp_partition.specs.Runs.{lead as lead_of, lead_text};
-ghost use Rattle.sp_defs.specs.Text.{part_text, partition_text};
+ghost use Rattle.sp_defs.specs.Text.{partition_text};
 
 use crate::Partition;
 use itoa::Buffer;
