@@ -7,3 +7,4 @@ pub mod Positive
 pub mod Sizes
 pub mod Places
 pub mod Steps
+pub mod Mirrored

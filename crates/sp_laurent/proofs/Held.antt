@@ -2,10 +2,11 @@
 use Rattle.std.proofs.Common.{◌≡◌, ◌≢◌, ◌+◌, ◌*◌, ◌⊎◌, inl, inr, ◌∙◌, ap, cond, ◌^◌, ◌<◌, ◌≤◌, [], ◌∷◌, refl, sym}
 use Rattle.std.proofs.Common.{subst, arith, ℤ, pos}
 use Rattle.std.specs.Int.RustNames.{unsigned_abs}
-use Rattle.sp_defs.specs.Laurent.{Laurent, Term, IsLaurent, add_term, collect, monomial, plus, times, size}
+use Rattle.sp_defs.specs.Laurent.{Laurent, Term, IsLaurent, add_term, collect, monomial, plus, times, negate, bar, size}
 use Rattle.sp_algebra.proofs.Coefficients.{by_eq, IsLaurent-collect}
 use Rattle.sp_defs.specs.Within.{ProductWithin}
-use Rattle.sp_algebra.proofs.Laws.{IsLaurent-plus, plus_nought, nought_times, times_nought}
+use Rattle.sp_algebra.proofs.Laws.{IsLaurent-plus, IsLaurent-negate, IsLaurent-bar, plus_nought, nought_times, times_nought}
+use Rattle.sp_algebra.proofs.Sizes.{size_negate, size_bar, within_negate, within_bar}
 use Rattle.sp_algebra.proofs.Sizes.{size-monomial, within_monomial, size_plus, size_times, within_plus, within_times}
 use Rattle.sp_laurent.specs.Held.{IsHeld, power_limit}
 
@@ -49,3 +50,17 @@ held_sum p a b held small within = record {
 pub add_none : (p a b : Laurent) → IsLaurent p → (a ≡ []) ⊎ (b ≡ []) → p ≡ plus p (times a b)
 add_none p a b h (inl e) = sym (ap (plus p) (ap (λ q. times q b) e ∙ nought_times b) ∙ plus_nought p h)
 add_none p a b h (inr e) = sym (ap (plus p) (ap (times a) e ∙ times_nought a) ∙ plus_nought p h)
+
+pub held_negate : (p : Laurent) → IsHeld p → IsHeld (negate p)
+held_negate p held = record {
+  laurent = IsLaurent-negate p;
+  small = omega (arith, size_negate p, held.small);
+  powers = within_negate power_limit p held.powers;
+}
+
+pub held_bar : (p : Laurent) → IsHeld p → IsHeld (bar p)
+held_bar p held = record {
+  laurent = IsLaurent-bar p;
+  small = omega (arith, size_bar p, held.small);
+  powers = within_bar power_limit p held.powers;
+}

@@ -4,3 +4,4 @@ pub mod Merging
 pub mod Multiple
 pub mod Product
 pub mod Texts
+pub mod Mirroring

@@ -3,17 +3,19 @@
 
 ghost use Rattle.std.specs.Prelude.{◌≡◌, ℕ, ◌+◌, ◌*◌, ◌^◌, ◌<◌, ◌≤◌, ◌↔◌, unsigned_abs, IfOk, OnOk, OnErr, IsErrOf};
 ghost use Rattle.std.specs.Prelude.{IsTrue, [], ◌++◌};
-ghost use Rattle.sp_defs.specs.Laurent.{coefficient, size, monomial, plus, times};
+ghost use Rattle.sp_defs.specs.Laurent.{IsPositive, coefficient, size, monomial, plus, times, negate, bar, value_at_one};
 ghost use Rattle.sp_defs.specs.Text.{polynomial_text};
 ghost use Rattle.sp_defs.specs.Within.{PowersWithin, ProductWithin};
 ghost use Rattle.sp_laurent.specs.Held.{IsHeld, power_limit};
 
+use crate::mirror::{negated, push_mirrored};
 use crate::sums::{is_within, push_term, with_product};
 use crate::text::print_terms;
 use std::alloc::{AllocError, Global};
 use std::marker::Model;
 
 mod fault;
+mod mirror;
 mod sums;
 mod text;
 
@@ -103,6 +105,45 @@ impl Laurent {
         Ok(Laurent {
             terms: Vec::from_slice(alloc, &self.terms)?,
         })
+    }
+
+    /// The polynomial with its coefficients negated.
+    pub fn negate(&self, alloc: Global) -> Result<Laurent, AllocError>
+        ensures { IfOk result (λ p. p ≡ negate self.now) }
+    {
+        Ok(Laurent {
+            terms: negated(alloc, &self.terms)?,
+        })
+    }
+
+    /// The polynomial with v and its inverse exchanged.
+    pub fn bar(&self, alloc: Global) -> Result<Laurent, AllocError>
+        ensures { IfOk result (λ p. p ≡ bar self.now) }
+    {
+        let mut terms = Vec::new(alloc);
+        push_mirrored(&mut terms, &self.terms)?;
+        Ok(Laurent { terms })
+    }
+
+    /// Whether only positive powers occur.
+    pub fn in_vzv(&self) -> bool
+        ensures { IsTrue result ↔ IsPositive self.now }
+    {
+        match self.terms.first() {
+            Some(first) => first.0 > 0,
+            None => true,
+        }
+    }
+
+    /// The value at v = 1.
+    pub fn at_one(&self) -> i128
+        ensures { result ≡ value_at_one self.now }
+    {
+        let mut sum = 0;
+        for term in &self.terms {
+            sum += term.1;
+        }
+        sum
     }
 
     /// Adds `a * b`. It is refused as too large where the size of this polynomial, and the product of the sizes of `a`
