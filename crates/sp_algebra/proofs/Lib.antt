@@ -8,3 +8,4 @@ pub mod Sizes
 pub mod Places
 pub mod Steps
 pub mod Mirrored
+pub mod Values
