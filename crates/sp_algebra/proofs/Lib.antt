@@ -9,3 +9,4 @@ pub mod Places
 pub mod Steps
 pub mod Mirrored
 pub mod Values
+pub mod Lifted

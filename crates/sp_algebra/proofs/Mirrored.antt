@@ -1,4 +1,4 @@
--- The canonical forms of the bar and of the lift, as code computes them: terms from last to first with powers negated.
+-- The canonical form of the bar, as code computes it: the terms from last to first with their powers negated.
 use Rattle.std.proofs.Common.{◌≡◌, ◌≢◌, true, false, cond, [], ◌∷◌, ◌++◌, map, reverse, filter, refl, sym, ◌∙◌, ap, ap₂, subst, arith, ℤ, pos, neg_ℤ, ◌+ℤ◌, ◌<ℤ◌, ◌≤ℤ◌, int_le, int_lt}
 use Rattle.std.proofs.lemmas.Int.{ints}
 use Rattle.std.proofs.lemmas.List.{reverse-append}
@@ -18,11 +18,11 @@ abbrev pub Descending : Laurent → Type 0
 Descending [] = Unit {0}
 Descending ((k, c) ∷ p) = (c ≢ pos 0) × (Below k p × Descending p)
 
-below_mirrored : (k : ℤ) (p : Laurent) → Above k p → Below (neg_ℤ k) (mirrored p)
+pub below_mirrored : (k : ℤ) (p : Laurent) → Above k p → Below (neg_ℤ k) (mirrored p)
 below_mirrored k [] h = tt
 below_mirrored k ((j, c) ∷ p) (lt, h) = (omega (arith, ints), below_mirrored k p h)
 
-descending_mirrored : (p : Laurent) → Canonical p → Descending (mirrored p)
+pub descending_mirrored : (p : Laurent) → Canonical p → Descending (mirrored p)
 descending_mirrored [] h = tt
 descending_mirrored ((k, c) ∷ p) (ne, (a, h)) = (ne, (below_mirrored k p a, descending_mirrored p h))
 
@@ -37,17 +37,17 @@ canonical_push k c ((j, d) ∷ p) (nd, (a, h)) (lt, b) ne = (nd, (above_push j k
 reverse-cons : (t : Term) (p : Laurent) → reverse (t ∷ p) ≡ reverse p ++ (t ∷ [])
 reverse-cons t p = reverse-append (t ∷ []) p
 
-all_reverse : (P : Term → Type 0) (p : Laurent) → AllByRecursion P p → AllByRecursion P (reverse p)
+pub all_reverse : (P : Term → Type 0) (p : Laurent) → AllByRecursion P p → AllByRecursion P (reverse p)
 all_reverse P [] h = tt
 all_reverse P (t ∷ p) (h, hs) = subst (λ q. AllByRecursion P q) (sym (reverse-cons t p)) (all_append P (reverse p) (t ∷ []) (all_reverse P p hs) (h, tt))
 
-canonical_reverse : (p : Laurent) → Descending p → Canonical (reverse p)
+pub canonical_reverse : (p : Laurent) → Descending p → Canonical (reverse p)
 canonical_reverse [] h = tt
 canonical_reverse ((k, c) ∷ p) (ne, (b, h)) =
     subst Canonical (sym (reverse-cons (k, c) p))
     (canonical_push k c (reverse p) (canonical_reverse p h) (all_reverse (λ t. t.0 <ℤ k) p b) ne)
 
-coefficient-reverse : (p : Laurent) (j : ℤ) → coefficient (reverse p) j ≡ coefficient p j
+pub coefficient-reverse : (p : Laurent) (j : ℤ) → coefficient (reverse p) j ≡ coefficient p j
 unfolding coefficient
 coefficient-reverse [] j = refl
 coefficient-reverse ((k, c) ∷ p) j =

@@ -5,3 +5,4 @@ pub mod Multiple
 pub mod Product
 pub mod Texts
 pub mod Mirroring
+pub mod Lower

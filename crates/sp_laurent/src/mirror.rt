@@ -1,10 +1,11 @@
 //! Terms with their powers or their coefficients negated.
-ghost use Rattle.std.specs.Prelude.{◌≡◌, ◌++◌, ◌^◌, ◌<◌, map, reverse, neg_ℤ, OnOk, IfOk};
-ghost use Rattle.sp_defs.specs.Laurent.{size};
+ghost use Rattle.std.specs.Prelude.{◌≡◌, ◌++◌, ◌^◌, ◌<◌, map, reverse, pos, neg_ℤ, OnOk, IfOk};
+ghost use Rattle.sp_defs.specs.Laurent.{size, monomial};
 ghost use Rattle.sp_defs.specs.Within.{PowersWithin};
 ghost use Rattle.sp_laurent.specs.Held.{power_limit};
 
 use crate::Term;
+use crate::sums::push_term;
 use std::alloc::{AllocError, Global};
 
 /// Appends the terms from last to first, with the powers negated.
@@ -28,4 +29,16 @@ pub(crate) fn negated(alloc: Global, terms: &[Term]) -> Result<Vec<Term>, AllocE
         negated.push((*power, -*coefficient))?;
     }
     Ok(negated)
+}
+
+/// These terms of negative powers, then `constant` at the power 0, then the terms again with their powers negated.
+pub(crate) fn lifted(alloc: Global, below: &[Term], constant: i128) -> Result<Vec<Term>, AllocError>
+    requires { PowersWithin power_limit below.now }
+    ensures { IfOk result (λ v.
+        v.items ≡ (below.now ++ monomial (pos 0) constant) ++ reverse (map (λ t. (neg_ℤ t.0, t.1)) below.now)) }
+{
+    let mut terms = Vec::from_slice(alloc, below)?;
+    push_term(&mut terms, 0, constant)?;
+    push_mirrored(&mut terms, below)?;
+    Ok(terms)
 }
