@@ -1,6 +1,7 @@
 -- The canonical form of the lift, as code computes it from the terms of powers up to 0.
-use Rattle.std.proofs.Common.{◌≡◌, ℕ, ◌+◌, ◌≤◌, Bool, true, false, cond, [], ◌∷◌, ◌++◌, map, reverse, filter, refl, sym}
-use Rattle.std.proofs.Common.{◌∙◌, ap, ap₂, subst, append_assoc, arith, ℤ, pos, neg_ℤ, ◌+ℤ◌, ◌<ℤ◌, ◌≤ℤ◌, int_eq, int_le, int_lt}
+use Rattle.std.proofs.Common.{◌≡◌, ℕ, ◌+◌, ◌≤◌, Bool, true, false, cond, [], ◌∷◌, ◌++◌, reverse, filter, refl, sym}
+use Rattle.std.proofs.Common.{◌∙◌, ap, ap₂, subst, append_assoc, arith, ℤ, pos, ◌+ℤ◌, ◌<ℤ◌, ◌≤ℤ◌}
+use Rattle.std.proofs.Common.{int_le, int_lt}
 use Rattle.std.proofs.lemmas.Int.{ints}
 use Rattle.std.proofs.lemmas.List.{append-nil}
 use Rattle.std.proofs.lemmas.List.Sorted.{IsPermutation-reverse, sum_by-IsPermutation}
@@ -10,9 +11,11 @@ use Rattle.sp_defs.specs.Laurent.{Laurent, Term, coefficient, collect, lift, mon
 use Rattle.sp_defs.specs.Within.{PowersWithin}
 use Rattle.sp_lists.proofs.Elements.{all_append, filter_append}
 use Rattle.sp_lists.proofs.Places.{all_weaken}
-use Rattle.sp_algebra.proofs.Coefficients.{Above, Canonical, by_eq, coefficient-append, same_collection, IsLaurent-canonical}
+use Rattle.sp_algebra.proofs.Coefficients.{Above, Canonical, by_eq, coefficient-append, same_collection}
+use Rattle.sp_algebra.proofs.Coefficients.{IsLaurent-canonical}
 use Rattle.sp_algebra.proofs.Sizes.{powers_monomial, size-append, size-monomial, size-mirrored, within-mirrored}
-use Rattle.sp_algebra.proofs.Mirrored.{mirrored, descending_mirrored, canonical_reverse, all_reverse, coefficient-reverse}
+use Rattle.sp_algebra.proofs.Mirrored.{mirrored, descending_mirrored, canonical_reverse, all_reverse}
+use Rattle.sp_algebra.proofs.Mirrored.{coefficient-reverse}
 
 filter_kept : (t : Term → Bool) (p : Laurent) → AllByRecursion (λ x. t x ≡ true) p → filter t p ≡ p
 filter_kept t [] h = refl
@@ -48,9 +51,11 @@ canonical_negative [] q hp low hq high = hq
 canonical_negative ((k, c) ∷ p) q (ne, (a, hp)) (lt, low) hq high =
     (ne, (above_append k p q a (above_lower k q lt high), canonical_negative p q hp low hq high))
 
-canonical_at_zero : (c : ℤ) (q : Laurent) → Canonical q → AllByRecursion (λ t. pos 0 <ℤ t.0) q → Canonical (monomial (pos 0) c ++ q)
+canonical_at_zero : (c : ℤ) (q : Laurent) → Canonical q → AllByRecursion (λ t. pos 0 <ℤ t.0) q
+    → Canonical (monomial (pos 0) c ++ q)
 canonical_at_zero c q hq high =
-    by_eq c (pos 0) (λ b. Canonical (cond {A = Laurent} b [] ((pos 0, c) ∷ []) ++ q)) (λ _. hq) (λ ne. (ne, (above_zero q high, hq)))
+    by_eq c (pos 0) (λ b. Canonical (cond {A = Laurent} b [] ((pos 0, c) ∷ []) ++ q)) (λ _. hq)
+    (λ ne. (ne, (above_zero q high, hq)))
 
 mirrored_high : (p : Laurent) → AllByRecursion (λ t. t.0 <ℤ pos 0) p → AllByRecursion (λ t. pos 0 <ℤ t.0) (mirrored p)
 mirrored_high [] h = tt
@@ -76,9 +81,12 @@ module _ (p below : Laurent) (c : ℤ) (above : Laurent) (h : IsSplitAtZero p be
   up_to_zero =
       let test : Term → Bool = λ t. int_le t.0 (pos 0) in
       filtered test
-      ∙ ap₂ (λ a b. a ++ b) (filter_kept test below (all_weaken (λ t. t.0 <ℤ pos 0) (λ t. test t ≡ true) below (λ t lt. yes_below t.0 lt) h.low))
-      (ap₂ (λ a b. a ++ b) (filter_kept test (monomial (pos 0) c) (powers_monomial (λ k. int_le k (pos 0) ≡ true) (pos 0) c refl))
-      (filter_dropped test above (all_weaken (λ t. pos 0 <ℤ t.0) (λ t. test t ≡ false) above (λ t lt. not_above t.0 lt) h.high))
+      ∙ ap₂ (λ a b. a ++ b) (filter_kept test below
+      (all_weaken (λ t. t.0 <ℤ pos 0) (λ t. test t ≡ true) below (λ t lt. yes_below t.0 lt) h.low))
+      (ap₂ (λ a b. a ++ b) (filter_kept test (monomial (pos 0) c)
+      (powers_monomial (λ k. int_le k (pos 0) ≡ true) (pos 0) c refl))
+      (filter_dropped test above (all_weaken (λ t. pos 0 <ℤ t.0) (λ t. test t ≡ false) above
+      (λ t lt. not_above t.0 lt) h.high))
       ∙ append-nil (monomial (pos 0) c))
     where
       yes_below : (k : ℤ) → k <ℤ pos 0 → int_le k (pos 0) ≡ true
@@ -91,9 +99,12 @@ module _ (p below : Laurent) (c : ℤ) (above : Laurent) (h : IsSplitAtZero p be
   below_zero =
       let test : Term → Bool = λ t. int_lt t.0 (pos 0) in
       filtered test
-      ∙ ap₂ (λ a b. a ++ b) (filter_kept test below (all_weaken (λ t. t.0 <ℤ pos 0) (λ t. test t ≡ true) below (λ t lt. yes_below t.0 lt) h.low))
-      (ap₂ (λ a b. a ++ b) (filter_dropped test (monomial (pos 0) c) (powers_monomial (λ k. int_lt k (pos 0) ≡ false) (pos 0) c refl))
-      (filter_dropped test above (all_weaken (λ t. pos 0 <ℤ t.0) (λ t. test t ≡ false) above (λ t lt. not_above t.0 lt) h.high)))
+      ∙ ap₂ (λ a b. a ++ b) (filter_kept test below
+      (all_weaken (λ t. t.0 <ℤ pos 0) (λ t. test t ≡ true) below (λ t lt. yes_below t.0 lt) h.low))
+      (ap₂ (λ a b. a ++ b) (filter_dropped test (monomial (pos 0) c)
+      (powers_monomial (λ k. int_lt k (pos 0) ≡ false) (pos 0) c refl))
+      (filter_dropped test above (all_weaken (λ t. pos 0 <ℤ t.0) (λ t. test t ≡ false) above
+      (λ t lt. not_above t.0 lt) h.high)))
       ∙ append-nil below
     where
       yes_below : (k : ℤ) → k <ℤ pos 0 → int_lt k (pos 0) ≡ true
@@ -109,10 +120,11 @@ module _ (p below : Laurent) (c : ℤ) (above : Laurent) (h : IsSplitAtZero p be
       let turned = canonical_reverse (mirrored below) (descending_mirrored below lower) in
       let le : (t : Term) → pos 0 <ℤ t.0 → pos 0 ≤ℤ t.0 = λ t lt. omega (arith, ints) in
       let high = all_append (λ t. pos 0 ≤ℤ t.0) (monomial (pos 0) c) (reverse (mirrored below))
-          (powers_monomial (λ k. pos 0 ≤ℤ k) (pos 0) c (omega (arith, ints)))
-          (all_weaken (λ t. pos 0 <ℤ t.0) (λ t. pos 0 ≤ℤ t.0) (reverse (mirrored below)) le upper) in
+      (powers_monomial (λ k. pos 0 ≤ℤ k) (pos 0) c (omega (arith, ints)))
+      (all_weaken (λ t. pos 0 <ℤ t.0) (λ t. pos 0 ≤ℤ t.0) (reverse (mirrored below)) le upper) in
       subst Canonical (sym (append_assoc below (monomial (pos 0) c) (reverse (mirrored below))))
-      (canonical_negative below (monomial (pos 0) c ++ reverse (mirrored below)) lower h.low (canonical_at_zero c (reverse (mirrored below)) turned upper) high)
+      (canonical_negative below (monomial (pos 0) c ++ reverse (mirrored below)) lower h.low
+      (canonical_at_zero c (reverse (mirrored below)) turned upper) high)
 
   -- the lift of the polynomial
   pub lift_is : Canonical p → lift p ≡ lifted below c
@@ -130,8 +142,15 @@ size-reverse p = sum_by-IsPermutation (λ t. unsigned_abs t.1) p (reverse p) (Is
 
 pub size-lifted : (below : Laurent) (c : ℤ) → size (lifted below c) ≡ size below + unsigned_abs c + size below
 size-lifted below c =
-    omega (arith, size-append (below ++ monomial (pos 0) c) (reverse (mirrored below)), size-append below (monomial (pos 0) c),
-    size-monomial (pos 0) c, size-reverse (mirrored below), size-mirrored below)
+    omega (
+      arith,
+      size-append (below ++ monomial (pos 0) c) (reverse (mirrored below)),
+      size-append below
+          (monomial (pos 0) c),
+      size-monomial (pos 0) c,
+      size-reverse (mirrored below),
+      size-mirrored below,
+    )
 
 pub within-lifted : (d : ℕ) (below : Laurent) (c : ℤ) → PowersWithin d below → PowersWithin d (lifted below c)
 within-lifted d below c h =

@@ -1,9 +1,10 @@
 -- The canonical form of the bar, as code computes it: the terms from last to first with their powers negated.
-use Rattle.std.proofs.Common.{◌≡◌, ◌≢◌, true, false, cond, [], ◌∷◌, ◌++◌, map, reverse, filter, refl, sym, ◌∙◌, ap, ap₂, subst, arith, ℤ, pos, neg_ℤ, ◌+ℤ◌, ◌<ℤ◌, ◌≤ℤ◌, int_le, int_lt}
+use Rattle.std.proofs.Common.{◌≡◌, ◌≢◌, [], ◌∷◌, ◌++◌, map, reverse, refl, sym, ◌∙◌, ap}
+use Rattle.std.proofs.Common.{subst, arith, ℤ, pos, neg_ℤ, ◌<ℤ◌}
 use Rattle.std.proofs.lemmas.Int.{ints}
 use Rattle.std.proofs.lemmas.List.{reverse-append}
 use Rattle.std.specs.List.{AllByRecursion}
-use Rattle.sp_defs.specs.Laurent.{Laurent, Term, coefficient, collect, bar, lift, monomial, IsLaurent}
+use Rattle.sp_defs.specs.Laurent.{Laurent, Term, coefficient, bar, IsLaurent}
 use Rattle.sp_lists.proofs.Elements.{all_append}
 use Rattle.sp_algebra.proofs.Coefficients.{Above, Canonical, coefficient-append, same_collection, IsLaurent-canonical}
 use Rattle.sp_algebra.proofs.Canonical.{canonical-from}
@@ -39,7 +40,8 @@ reverse-cons t p = reverse-append (t ∷ []) p
 
 pub all_reverse : (P : Term → Type 0) (p : Laurent) → AllByRecursion P p → AllByRecursion P (reverse p)
 all_reverse P [] h = tt
-all_reverse P (t ∷ p) (h, hs) = subst (λ q. AllByRecursion P q) (sym (reverse-cons t p)) (all_append P (reverse p) (t ∷ []) (all_reverse P p hs) (h, tt))
+all_reverse P (t ∷ p) (h, hs) = subst (λ q. AllByRecursion P q) (sym (reverse-cons t p))
+    (all_append P (reverse p) (t ∷ []) (all_reverse P p hs) (h, tt))
 
 pub canonical_reverse : (p : Laurent) → Descending p → Canonical (reverse p)
 canonical_reverse [] h = tt
@@ -59,4 +61,5 @@ pub bar_is : (p : Laurent) → IsLaurent p → bar p ≡ reverse (mirrored p)
 unfolding bar
 bar_is p h =
     same_collection (mirrored p) (reverse (mirrored p)) (λ j. sym (coefficient-reverse (mirrored p) j))
-    ∙ IsLaurent-canonical (reverse (mirrored p)) (canonical_reverse (mirrored p) (descending_mirrored p (canonical-from p h)))
+    ∙ IsLaurent-canonical (reverse (mirrored p)) (canonical_reverse (mirrored p)
+    (descending_mirrored p (canonical-from p h)))

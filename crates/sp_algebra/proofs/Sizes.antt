@@ -1,11 +1,14 @@
 -- The size of a sum, a product and a monomial, and how far their powers lie from 0.
-use Rattle.std.proofs.Common.{◌≡◌, refl, ℕ, zero, suc, ◌+◌, ◌*◌, ◌<◌, ◌≤◌, length, get_or, true, false, cond, [], ◌∷◌, ◌++◌}
-use Rattle.std.proofs.Common.{map, sym, ap, subst, arith, ℤ, pos, neg_ℤ, ◌+ℤ◌, ◌*ℤ◌, Less, Equal, Greater, int_cmp, int_eq}
+use Rattle.std.proofs.Common.{◌≡◌, refl, ℕ, zero, suc, ◌+◌, ◌*◌, ◌<◌, ◌≤◌, length, get_or, true, false, cond, [], ◌∷◌}
+use Rattle.std.proofs.Common.{◌++◌}
+use Rattle.std.proofs.Common.{map, sym, ap, subst, arith, ℤ, pos, neg_ℤ, ◌+ℤ◌, ◌*ℤ◌, Less, Equal, Greater, int_cmp}
+use Rattle.std.proofs.Common.{int_eq}
 use Rattle.std.proofs.lemmas.Int.{ints, unsigned_abs-mul}
 use Rattle.std.proofs.lemmas.List.Sums.{sum_by-append, sum_by-cons}
 use Rattle.std.specs.Int.RustNames.{unsigned_abs}
 use Rattle.std.specs.List.{AllByRecursion}
-use Rattle.sp_defs.specs.Laurent.{Laurent, Term, put, placed, add_term, collect, plus, products, times, negate, bar, monomial, size}
+use Rattle.sp_defs.specs.Laurent.{Laurent, Term, put, placed, add_term, collect, plus, products, times, negate, bar}
+use Rattle.sp_defs.specs.Laurent.{monomial, size}
 use Rattle.sp_defs.specs.Within.{PowersWithin, ProductWithin}
 use Rattle.sp_lists.proofs.Elements.{all_append}
 use Rattle.sp_algebra.proofs.Coefficients.{by_eq}
@@ -31,8 +34,8 @@ size_add_term : (k c : ℤ) (p : Laurent) → size (add_term k c p) ≤ unsigned
 unfolding add_term
 size_add_term k c [] = omega (arith, size-put k c [])
 size_add_term k c ((j, d) ∷ p) =
-    elim (int_cmp k j) as (λ o. size (placed o (k, c) (j, d) p (add_term k c p)) 
-        ≤ unsigned_abs c + size ((j, d) ∷ p)) [
+    elim (int_cmp k j) as (λ o. size (placed o (k, c) (j, d) p (add_term k c p))
+    ≤ unsigned_abs c + size ((j, d) ∷ p)) [
       | Less ↦ omega (arith, size-put k c ((j, d) ∷ p))
       | Equal ↦ omega (arith, ints, size-put k (c +ℤ d) p, size-cons j d p)
       | Greater ↦ omega (arith, size-cons j d (add_term k c p), size-cons j d p, size_add_term k c p)

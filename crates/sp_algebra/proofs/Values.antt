@@ -1,6 +1,7 @@
 -- The value of a polynomial at v = 1, and where only positive powers occur.
-use Rattle.std.proofs.Common.{◌≡◌, ◌≢◌, ℕ, ◌+◌, ◌<◌, ◌≤◌, [], ◌∷◌, ◌++◌, map, take, get_or, length, refl, sym, ◌∙◌, ap, List}
-use Rattle.std.proofs.Common.{ap₂, subst, arith, ℤ, pos, ◌+ℤ◌, ◌<ℤ◌, ◌≤ℤ◌, int_cmp, int_lt, true, Less, Equal, Greater}
+use Rattle.std.proofs.Common.{◌≡◌, ℕ, ◌+◌, ◌<◌, ◌≤◌, [], ◌∷◌, ◌++◌, take, get_or, length, refl, sym, ◌∙◌}
+use Rattle.std.proofs.Common.{ap}
+use Rattle.std.proofs.Common.{ap₂, arith, ℤ, pos, ◌+ℤ◌, ◌<ℤ◌, ◌≤ℤ◌, int_cmp, int_lt, true, Less, Equal, Greater}
 use Rattle.std.specs.Ordering.{MatchOrdering}
 use Rattle.std.specs.Cmp.{int_ranks}
 use Rattle.std.proofs.lemmas.Int.{ints}
@@ -8,7 +9,7 @@ use Rattle.std.proofs.lemmas.List.{take_more}
 use Rattle.std.proofs.lemmas.List.Sums.{sum_by-take-le}
 use Rattle.std.specs.Int.RustNames.{unsigned_abs}
 use Rattle.sp_defs.specs.Laurent.{Laurent, Term, IsPositive, coefficient, size, int_sum, value_at_one}
-use Rattle.sp_algebra.proofs.Coefficients.{Above, Above-lower, Canonical, at-same, at-other, nothing_below}
+use Rattle.sp_algebra.proofs.Coefficients.{Above, Above-lower, Canonical, at-same, nothing_below}
 use Rattle.sp_algebra.proofs.Sizes.{size-cons}
 
 pub value-append : (p q : Laurent) → value_at_one (p ++ q) ≡ value_at_one p +ℤ value_at_one q
@@ -44,19 +45,22 @@ first_positive k c p (ne, (a, h)) positive = by_order k (λ le. ne (sym (shown l
     shown le = ap₂ (λ x y. x +ℤ y) (at-same k c) (nothing_below k p k a (omega (arith, ints))) ∙ omega (arith, ints)
 
     by_order : (k : ℤ) → (k ≤ℤ pos 0 → ⊥) → pos 0 <ℤ k
-    by_order k never = elim (int_cmp k (pos 0)) as (λ o. MatchOrdering o (k <ℤ pos 0) (k ≡ pos 0) (pos 0 <ℤ k) → pos 0 <ℤ k) [
-      | Less ↦ λ h. absurd (never (omega (arith, ints)))
-      | Equal ↦ λ h. absurd (never (omega (arith, ints)))
-      | Greater ↦ λ h. h
-    ] (int_ranks k (pos 0))
+    by_order k never = elim (int_cmp k (pos 0)) as (λ o. MatchOrdering o (k <ℤ pos 0) (k ≡ pos 0)
+        (pos 0 <ℤ k) → pos 0 <ℤ k) [
+          | Less ↦ λ h. absurd (never (omega (arith, ints)))
+          | Equal ↦ λ h. absurd (never (omega (arith, ints)))
+          | Greater ↦ λ h. h
+        ] (int_ranks k (pos 0))
 
 -- so a test of the first power decides
 pub first_decides : (p : Laurent) (d : Term) → Canonical p → 0 < length p
-    → (int_lt (pos 0) (get_or p 0 d).0 ≡ true → IsPositive p) × (IsPositive p → int_lt (pos 0) (get_or p 0 d).0 ≡ true)
+    → (int_lt (pos 0) (get_or p 0 d).0 ≡ true → IsPositive p) × (IsPositive p → int_lt (pos 0)
+    (get_or p 0 d).0 ≡ true)
 first_decides [] d h some = absurd (omega arith)
-first_decides ((k, c) ∷ p) d (ne, (a, h)) some =
-    ((λ test. let lt = above k test in positive_above ((k, c) ∷ p) (lt, Above-lower (pos 0) k p lt a)),
-    (λ positive. tested k (first_positive k c p (ne, (a, h)) positive)))
+first_decides ((k, c) ∷ p) d (ne, (a, h)) some = (
+  (λ test. let lt = above k test in positive_above ((k, c) ∷ p) (lt, Above-lower (pos 0) k p lt a)),
+  (λ positive. tested k (first_positive k c p (ne, (a, h)) positive)),
+)
   where
     above : (k : ℤ) → int_lt (pos 0) k ≡ true → pos 0 <ℤ k
     above k e = grind (arith, ints)
@@ -73,5 +77,9 @@ positive_nought (t ∷ p) none j le = absurd (omega arith)
 pub value_small : (p : Laurent) (i : ℕ) (d : Term) → i < length p
     → unsigned_abs (value_at_one (take i p) +ℤ (get_or p i d).1) ≤ size p
 value_small p i d lt =
-    omega (arith, ap unsigned_abs (value-more p i d lt), value_le_size (take (i + 1) p),
-    sum_by-take-le (λ (t : Term). unsigned_abs t.1) p (i + 1))
+    omega (
+      arith,
+      ap unsigned_abs (value-more p i d lt),
+      value_le_size (take (i + 1) p),
+      sum_by-take-le (λ (t : Term). unsigned_abs t.1) p (i + 1),
+    )

@@ -1,18 +1,15 @@
 -- Which lists of terms the code may hold.
-use Rattle.std.proofs.Common.{◌≡◌, ◌≢◌, ◌+◌, ◌*◌, ◌⊎◌, inl, inr, ◌∙◌, ap, cond, ◌^◌, ◌<◌, ◌≤◌, [], ◌∷◌, refl, sym}
-use Rattle.std.proofs.Common.{subst, arith, ℤ, pos}
+use Rattle.std.proofs.Common.{◌≡◌, ◌+◌, ◌*◌, ◌⊎◌, inl, inr, ◌∙◌, ap, ◌^◌, ◌<◌, ◌≤◌, [], ◌∷◌, refl, sym}
+use Rattle.std.proofs.Common.{arith, ℤ}
 use Rattle.std.specs.Int.RustNames.{unsigned_abs}
-use Rattle.sp_defs.specs.Laurent.{Laurent, Term, IsLaurent, add_term, collect, monomial, plus, times, negate, bar, size}
-use Rattle.sp_algebra.proofs.Coefficients.{by_eq, IsLaurent-collect}
+use Rattle.sp_defs.specs.Laurent.{Laurent, IsLaurent, add_term, collect, monomial, plus, times, negate, bar, size}
+use Rattle.sp_algebra.proofs.Coefficients.{IsLaurent-collect}
 use Rattle.sp_defs.specs.Within.{ProductWithin}
-use Rattle.sp_algebra.proofs.Laws.{IsLaurent-plus, IsLaurent-negate, IsLaurent-bar, plus_nought, nought_times, times_nought}
+use Rattle.sp_algebra.proofs.Laws.{IsLaurent-plus, IsLaurent-negate, IsLaurent-bar, plus_nought, nought_times}
+use Rattle.sp_algebra.proofs.Laws.{times_nought}
 use Rattle.sp_algebra.proofs.Sizes.{size_negate, size_bar, within_negate, within_bar}
 use Rattle.sp_algebra.proofs.Sizes.{size-monomial, within_monomial, size_plus, size_times, within_plus, within_times}
 use Rattle.sp_laurent.specs.Held.{IsHeld, power_limit}
-
--- equal terms
-abbrev pub Same : Term → Term → Type 0
-Same s t = s ≡ t
 
 pub held_nought : IsHeld []
 unfolding collect
@@ -28,15 +25,6 @@ held_monomial k c small within = record {
   small = omega (arith, size-monomial k c);
   powers = within_monomial power_limit k c within;
 }
-
-pub one_term : (k c : ℤ) → c ≢ pos 0 → monomial k c ≡ (k, c) ∷ []
-one_term k c ne =
-    let term : Term = (k, c) in
-    by_eq c (pos 0) (λ b. cond b [] (term ∷ []) ≡ term ∷ []) (λ e. absurd (ne e)) (λ _. refl)
-
--- a single term
-pub held_term : (k c : ℤ) → c ≢ pos 0 → unsigned_abs c < 2 ^ 127 → unsigned_abs k ≤ power_limit → IsHeld ((k, c) ∷ [])
-held_term k c ne small within = subst IsHeld (one_term k c ne) (held_monomial k c small within)
 
 pub held_sum : (p a b : Laurent) → IsHeld p → size p + size a * size b < 2 ^ 127 → ProductWithin power_limit a b
     → IsHeld (plus p (times a b))

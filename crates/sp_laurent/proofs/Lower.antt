@@ -1,5 +1,6 @@
 -- A polynomial's lower half decides its lift.
-use Rattle.std.proofs.Common.{◌≡◌, ◌+◌, ◌*◌, ◌<◌, ◌≤◌, ◌^◌, ◌++◌, map, reverse, sym, ◌∙◌, ap, subst, arith, ℤ, pos, neg_ℤ}
+use Rattle.std.proofs.Common.{◌≡◌, ◌+◌, ◌*◌, ◌<◌, ◌≤◌, ◌^◌, ◌++◌, map, reverse, sym, ◌∙◌, ap, subst, arith, ℤ, pos}
+use Rattle.std.proofs.Common.{neg_ℤ}
 use Rattle.std.specs.Int.RustNames.{unsigned_abs}
 use Rattle.sp_defs.specs.Laurent.{Laurent, monomial, lift, size}
 use Rattle.sp_defs.specs.Within.{PowersWithin}
@@ -7,7 +8,7 @@ use Rattle.sp_lists.proofs.Elements.{all_left}
 use Rattle.sp_algebra.proofs.Canonical.{canonical-from}
 use Rattle.sp_algebra.proofs.Laws.{IsLaurent-lift}
 use Rattle.sp_algebra.proofs.Sizes.{size-append, size-monomial}
-use Rattle.sp_algebra.proofs.Lifted.{IsSplitAtZero, lifted, lift_is, size-lifted, within-lifted}
+use Rattle.sp_algebra.proofs.Lifted.{IsSplitAtZero, lift_is, size-lifted, within-lifted}
 use Rattle.sp_laurent.specs.Held.{IsHeld, power_limit}
 
 module _ (p below : Laurent) (c : ℤ) (above : Laurent) (held : IsHeld p) (h : IsSplitAtZero p below c above) where
@@ -19,8 +20,14 @@ module _ (p below : Laurent) (c : ℤ) (above : Laurent) (held : IsHeld p) (h : 
 
   pub lower_small : size below + unsigned_abs c < 2 ^ 127
   lower_small =
-      omega (arith, held.small, ap size h.parts, size-append below (monomial (pos 0) c ++ above),
-      size-append (monomial (pos 0) c) above, size-monomial (pos 0) c)
+      omega (
+        arith,
+        held.small,
+        ap size h.parts,
+        size-append below (monomial (pos 0) c ++ above),
+        size-append (monomial (pos 0) c) above,
+        size-monomial (pos 0) c,
+      )
 
   pub lower_within : PowersWithin power_limit below
   lower_within =

@@ -1,5 +1,6 @@
 -- Sums and products of signed numbers in their machine form.
-use Rattle.std.proofs.Common.{◌≡◌, ◌<◌, ◌^◌, sym, ◌∙◌, ap, ap₂, subst, arith, ℤ, pos, neg_ℤ, ◌+ℤ◌, ◌-ℤ◌, ◌*ℤ◌, to_z, of_z, SFits, to_z-of_z}
+use Rattle.std.proofs.Common.{◌≡◌, ◌<◌, ◌^◌, sym, ◌∙◌, ap, ap₂, subst, arith, ℤ, pos, neg_ℤ, ◌+ℤ◌, ◌-ℤ◌, ◌*ℤ◌, to_z}
+use Rattle.std.proofs.Common.{of_z, SFits, to_z-of_z}
 use Rattle.std.proofs.lemmas.Int.{ints, fits_signed_from_abs}
 use Rattle.std.specs.Int.RustNames.{unsigned_abs}
 use mir.Syntax.{Width, w128}
@@ -30,5 +31,6 @@ negative w a fits = ap (λ x. pos 0 -ℤ x) (to_z-of_z fits) ∙ zero_less a
 pub neg_fits : (w : Width) (a : ℤ) → SFits w a → SFits w (neg_ℤ a) → SFits w (pos 0 -ℤ to_z w (of_z w a))
 neg_fits w a fits negative_fits = subst (λ x. SFits w x) (sym (negative w a fits)) negative_fits
 
-pub neg_back : (w : Width) (a : ℤ) → SFits w a → SFits w (neg_ℤ a) → to_z w (of_z w (pos 0 -ℤ to_z w (of_z w a))) ≡ neg_ℤ a
+pub neg_back : (w : Width) (a : ℤ) → SFits w a → SFits w (neg_ℤ a)
+    → to_z w (of_z w (pos 0 -ℤ to_z w (of_z w a))) ≡ neg_ℤ a
 neg_back w a fits negative_fits = to_z-of_z (neg_fits w a fits negative_fits) ∙ negative w a fits

@@ -3,7 +3,8 @@
 
 ghost use Rattle.std.specs.Prelude.{◌≡◌, ℕ, ◌+◌, ◌*◌, ◌^◌, ◌<◌, ◌≤◌, ◌↔◌, unsigned_abs, IfOk, OnOk, OnErr, IsErrOf};
 ghost use Rattle.std.specs.Prelude.{IsTrue, [], ◌++◌, pos, neg_ℤ, map, reverse};
-ghost use Rattle.sp_defs.specs.Laurent.{IsPositive, coefficient, size, monomial, plus, times, negate, bar, lift, value_at_one};
+ghost use Rattle.sp_defs.specs.Laurent.{IsPositive, coefficient, size, monomial, plus, times, negate, bar, lift};
+ghost use Rattle.sp_defs.specs.Laurent.{value_at_one};
 ghost use Rattle.sp_defs.specs.Text.{polynomial_text};
 ghost use Rattle.sp_defs.specs.Within.{PowersWithin, ProductWithin};
 ghost use Rattle.sp_laurent.specs.Held.{IsHeld, power_limit};

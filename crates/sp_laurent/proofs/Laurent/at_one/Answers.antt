@@ -1,6 +1,6 @@
-use Rattle.std.proofs.Common.{rules, ◌≡◌, ◌≤◌, ◌+ℤ◌, pos, take, get_or, sym, ◌∙◌, ap, ap₂, subst, arith, SFits, to_z, of_z, to_z-of_z}
+use Rattle.std.proofs.Common.{rules, ◌+ℤ◌, pos, take, get_or, sym, ◌∙◌, ap, ap₂, subst, arith, SFits, to_z}
+use Rattle.std.proofs.Common.{of_z, to_z-of_z}
 use Rattle.std.specs.Int.{w128}
-use Rattle.std.specs.Int.RustNames.{unsigned_abs}
 use Rattle.sp_defs.specs.Laurent.{value_at_one, size}
 use Rattle.sp_algebra.proofs.Values.{value-nought, value-more, value_small}
 use Rattle.sp_laurent.proofs.Machine.{small_fits}
@@ -17,7 +17,8 @@ overflow_add-sum c =
     let small = value_small items c.loop-term.term-index (pos 0, pos 0) c.loop-term-test.true in
     let sum = ap₂ (λ x y. x +ℤ y) c.loop-term.invariant (to_z-of_z fits) in
     subst (λ x. SFits w128 x) (sym sum)
-    (small_fits (value_at_one (take c.loop-term.term-index items) +ℤ t.1) (omega (arith, small, ap size c.deref-term-items.ensures.value, c.self.invariant.small)))
+    (small_fits (value_at_one (take c.loop-term.term-index items) +ℤ t.1)
+    (omega (arith, small, ap size c.deref-term-items.ensures.value, c.self.invariant.small)))
 
 pub loop-term-preserved : goal.loop-term-preserved
 loop-term-preserved c =
@@ -27,5 +28,6 @@ loop-term-preserved c =
     let small = value_small items c.loop-term.term-index (pos 0, pos 0) c.loop-term-test.true in
     let sum = ap₂ (λ x y. x +ℤ y) c.loop-term.invariant (to_z-of_z fits) in
     ap (λ x. to_z w128 (of_z w128 x)) sum
-    ∙ to_z-of_z (small_fits (value_at_one (take c.loop-term.term-index items) +ℤ t.1) (omega (arith, small, ap size c.deref-term-items.ensures.value, c.self.invariant.small)))
+    ∙ to_z-of_z (small_fits (value_at_one (take c.loop-term.term-index items) +ℤ t.1)
+    (omega (arith, small, ap size c.deref-term-items.ensures.value, c.self.invariant.small)))
     ∙ sym (value-more items c.loop-term.term-index (pos 0, pos 0) c.loop-term-test.true)

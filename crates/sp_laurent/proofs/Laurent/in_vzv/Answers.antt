@@ -1,4 +1,5 @@
-use Rattle.std.proofs.Common.{rules, ◌≡◌, ◌<◌, length, refl, sym, ◌∙◌, ap, subst, pos, true, int_lt, to_z, of_z, w32, to_z-of_z, SFits, get_or}
+use Rattle.std.proofs.Common.{rules, ◌≡◌, ◌<◌, length, refl, sym, ◌∙◌, ap, subst, pos, true, int_lt, to_z, of_z, w32}
+use Rattle.std.proofs.Common.{to_z-of_z, SFits, get_or}
 use Rattle.sp_defs.specs.Laurent.{IsPositive}
 use Rattle.sp_algebra.proofs.Canonical.{canonical-from}
 use Rattle.sp_algebra.proofs.Values.{first_decides, positive_nought}
@@ -13,9 +14,11 @@ returns-in-Some c =
     let is = c.in-Some.ensures.item.1 ∙ ap (λ q. get_or q 0 first) c.deref.ensures.value in
     let power = to_z-of_z fits ∙ ap (λ t. t.0) is in
     let decides = first_decides p first (canonical-from p c.self.invariant.laurent) some in
-    subst (λ q. (int_lt (pos 0) (to_z w32 (of_z w32 first.0)) ≡ true → IsPositive q) × (IsPositive q → int_lt (pos 0) (to_z w32 (of_z w32 first.0)) ≡ true))
+    subst (λ q. (int_lt (pos 0) (to_z w32 (of_z w32 first.0)) ≡ true → IsPositive q) × (IsPositive q → int_lt (pos 0)
+    (to_z w32 (of_z w32 first.0)) ≡ true))
     c.self.view_is
-    (subst (λ k. (int_lt (pos 0) k ≡ true → IsPositive p) × (IsPositive p → int_lt (pos 0) k ≡ true)) (sym power) decides)
+    (subst (λ k. (int_lt (pos 0) k ≡ true → IsPositive p) × (IsPositive p → int_lt (pos 0) k ≡ true))
+    (sym power) decides)
 
 pub returns-in-None : goal.returns-in-None
 returns-in-None c =

@@ -1,7 +1,8 @@
-use Rattle.std.proofs.Common.{rules, ◌≡◌, ◌++◌, ◌+◌, ◌*◌, ◌<◌, ◌^◌, map, reverse, pos, neg_ℤ, sym, ◌∙◌, ap, subst, SFits, to_z-of_z}
+use Rattle.std.proofs.Common.{rules, ◌++◌, ◌+◌, ◌*◌, ◌<◌, ◌^◌, map, reverse, pos, neg_ℤ, sym, ◌∙◌, ap, subst}
+use Rattle.std.proofs.Common.{SFits, to_z-of_z}
 use Rattle.std.specs.Int.{w128}
 use Rattle.std.specs.Int.RustNames.{unsigned_abs}
-use Rattle.sp_defs.specs.Laurent.{Laurent, monomial, lift, size}
+use Rattle.sp_defs.specs.Laurent.{monomial, size}
 use Rattle.sp_algebra.proofs.Canonical.{canonical-from}
 use Rattle.sp_algebra.proofs.Coefficients.{Canonical, IsLaurent-canonical}
 use Rattle.sp_algebra.proofs.Lifted.{IsSplitAtZero}
@@ -15,7 +16,8 @@ split_first-constant-requires-clause-laurent c =
     let below = c.split_below.result.0.now in
     let others = c.split_below.result.1.now in
     let parts = c.split_below.ensures.joined ∙ c.deref.ensures.value in
-    IsLaurent-canonical others (canonical_right below others (subst Canonical (sym parts) (canonical-from _ c.self.invariant.laurent)))
+    IsLaurent-canonical others (canonical_right below others
+    (subst Canonical (sym parts) (canonical-from _ c.self.invariant.laurent)))
 
 pub returns : goal.returns
 returns c =
@@ -27,12 +29,14 @@ returns c =
     let fits : SFits w128 constant = search rules in
     let back = sym (to_z-of_z fits) in
     let split : IsSplitAtZero p below constant above = record {
-      parts = ap (λ q. below ++ q) c.split_first-constant.ensures.joined ∙ c.split_below.ensures.joined ∙ c.deref.ensures.value ∙ c.self.view_is;
+      parts = ap (λ q. below ++ q) c.split_first-constant.ensures.joined ∙ c.split_below.ensures.joined
+          ∙ c.deref.ensures.value ∙ c.self.view_is;
       low = c.split_below.ensures.below;
       high = c.split_first-constant.ensures.above;
     } in
     record {
-      lift = lower_lift p below constant above held split ∙ ap (λ a. (below ++ monomial (pos 0) a) ++ reverse (map (λ t. (neg_ℤ t.0, t.1)) below)) back;
+      lift = lower_lift p below constant above held split
+          ∙ ap (λ a. (below ++ monomial (pos 0) a) ++ reverse (map (λ t. (neg_ℤ t.0, t.1)) below)) back;
       sizes = lower_sizes p below constant above held split ∙ ap (λ a. 2 * size below + unsigned_abs a) back;
       small = subst (λ a. size below + unsigned_abs a < 2 ^ 127) back (lower_small p below constant above held split);
       within = lower_within p below constant above held split;

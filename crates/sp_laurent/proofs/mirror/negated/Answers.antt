@@ -1,8 +1,9 @@
-use Rattle.std.proofs.Common.{rules, ◌≡◌, ◌++◌, ◌∷◌, [], pos, take, map, get_or, ◌∙◌, sym, ap, ap₂, neg_ℤ, arith, SFits, w32, to_z-of_z}
+use Rattle.std.proofs.Common.{rules, ◌++◌, ◌∷◌, [], pos, take, map, get_or, ◌∙◌, sym, ap, ap₂, neg_ℤ, arith}
+use Rattle.std.proofs.Common.{SFits, w32, to_z-of_z}
 use Rattle.std.specs.Int.{w128}
 use Rattle.std.proofs.lemmas.Int.{ints}
 use Rattle.std.proofs.lemmas.List.{take_more, map-append}
-use Rattle.sp_defs.specs.Laurent.{Laurent, Term}
+use Rattle.sp_defs.specs.Laurent.{Term}
 use Rattle.sp_algebra.proofs.Sizes.{coefficient_le}
 use Rattle.sp_laurent.proofs.Machine.{neg_back, neg_fits, small_fits}
 use Rattle.sp_laurent.proofs.mirror.negated.Goals as goal
@@ -25,4 +26,5 @@ loop-power-preserved c =
     c.in_ok-push.ensures.items ∙ ap₂ (λ k a. c.loop-power.negated.items ++ ((k, a) ∷ [])) (to_z-of_z fits) back
     ∙ ap (λ p. p ++ (negative t ∷ [])) c.loop-power.invariant
     ∙ sym (map-append negative (take c.loop-power.power-index c.args.terms.now) (t ∷ []))
-    ∙ ap (map negative) (sym (take_more c.args.terms.now c.loop-power.power-index (pos 0, pos 0) c.loop-power-test.true))
+    ∙ ap (map negative) (sym (take_more c.args.terms.now c.loop-power.power-index
+    (pos 0, pos 0) c.loop-power-test.true))

@@ -1,4 +1,4 @@
-use Rattle.std.proofs.Common.{rules, ◌≡◌, ◌++◌, ◌∷◌, [], ◌∙◌, ap, ap₂, neg_ℤ, arith, SFits, w32, to_z-of_z}
+use Rattle.std.proofs.Common.{rules, ◌++◌, ◌∷◌, [], ◌∙◌, ap₂, neg_ℤ, arith, SFits, w32, to_z-of_z}
 use Rattle.std.specs.Int.{w128}
 use Rattle.std.proofs.lemmas.Int.{ints, fits_signed_from_abs}
 use Rattle.sp_laurent.proofs.Machine.{neg_back, neg_fits}
@@ -20,7 +20,8 @@ loop-power-preserved c =
     let small = last_within _ _ _ _ _ t c.loop-power.invariant c.in-Some.ensures.steps in
     let power = neg_back w32 t.0 fits (fits_signed_from_abs w32 (neg_ℤ t.0) (omega (arith, ints, small))) in
     turning_more _ _ _ _ _ t c.loop-power.invariant c.in-Some.ensures.steps c.push.new.self.items
-    (c.in_ok-push.ensures.items ∙ ap₂ (λ k a. c.loop-power.out.items ++ ((k, a) ∷ [])) power (to_z-of_z coefficient_fits))
+    (c.in_ok-push.ensures.items ∙ ap₂ (λ k a. c.loop-power.out.items ++ ((k, a) ∷ [])) power
+    (to_z-of_z coefficient_fits))
 
 pub returns : goal.returns
 returns c = turning_all _ _ _ _ c.in-None.ensures.steps.0 c.loop-power.invariant
