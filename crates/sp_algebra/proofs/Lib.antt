@@ -7,3 +7,6 @@ pub mod Positive
 pub mod Sizes
 pub mod Places
 pub mod Steps
+pub mod Mirrored
+pub mod Values
+pub mod Lifted

@@ -1,5 +1,7 @@
 -- One step of the merge of two ascending lists of terms.
-use Rattle.std.proofs.Common.{◌≡◌, ◌≢◌, ℕ, ◌-◌, ◌≤◌, true, false, cond, [], ◌∷◌, ◌++◌, take, drop, length, get_or, refl, sym, ◌∙◌, ap, ap₂, subst, append_assoc, inl, inr, arith, ℤ, pos, ◌+ℤ◌, ◌<ℤ◌, ◌≤ℤ◌, int_lt}
+use Rattle.std.proofs.Common.{◌≡◌, ◌≢◌, ℕ, ◌-◌, ◌≤◌, true, false, cond, [], ◌∷◌, ◌++◌, take, drop, length, get_or}
+use Rattle.std.proofs.Common.{refl, sym, ◌∙◌, ap, ap₂, subst, append_assoc, inl, inr, arith, ℤ, pos, ◌+ℤ◌, ◌<ℤ◌, ◌≤ℤ◌}
+use Rattle.std.proofs.Common.{int_lt}
 use Rattle.std.proofs.lemmas.Int.{ints}
 use Rattle.std.specs.Int.RustNames.{unsigned_abs}
 use Rattle.std.proofs.lemmas.Bool.{cases_lt}
@@ -43,10 +45,12 @@ pub rest_above : (terms : Laurent) (k : ℤ) (d : Term) → Canonical terms → 
     → AllByRecursion (λ t. k <ℤ t.0) (take (length terms - 1) (drop 1 terms))
 rest_above [] k d h some same = absurd (omega arith)
 rest_above ((j, c) ∷ rest) k d (ne, (a, h)) some same =
-    subst (λ q. AllByRecursion (λ t. k <ℤ t.0) q) (sym (rest-cons (j, c) rest)) (all_above k rest (subst (λ l. Above l rest) same a))
+    subst (λ q. AllByRecursion (λ t. k <ℤ t.0) q) (sym (rest-cons (j, c) rest))
+    (all_above k rest (subst (λ l. Above l rest) same a))
 
 -- the first term has another power than k, which no power is below
-pub all_above_other : (terms : Laurent) (k : ℤ) (d : Term) → Canonical terms → 1 ≤ length terms → AllByRecursion (λ t. k ≤ℤ t.0) terms
+pub all_above_other : (terms : Laurent) (k : ℤ) (d : Term) → Canonical terms → 1 ≤ length terms
+    → AllByRecursion (λ t. k ≤ℤ t.0) terms
     → (get_or terms 0 d).0 ≢ k → AllByRecursion (λ t. k <ℤ t.0) terms
 all_above_other [] k d h some high other = absurd (omega arith)
 all_above_other ((j, c) ∷ rest) k d (ne, (a, h)) some (le, high) other =
@@ -55,7 +59,8 @@ all_above_other ((j, c) ∷ rest) k d (ne, (a, h)) some (le, high) other =
     (lt, all_above k rest (Above-lower k j rest lt a))
 
 -- a term is added where its power stands
-pub merged : (k c d : ℤ) (below above : Laurent) → AllByRecursion (λ t. t.0 <ℤ k) below → AllByRecursion (λ t. k <ℤ t.0) above
+pub merged : (k c d : ℤ) (below above : Laurent) → AllByRecursion (λ t. t.0 <ℤ k) below
+    → AllByRecursion (λ t. k <ℤ t.0) above
     → add_term k c (below ++ (monomial k d ++ above)) ≡ below ++ (monomial k (c +ℤ d) ++ above)
 merged k c d below above low high =
     add_term-append k c below (monomial k d ++ above) low ∙ ap (λ q. below ++ q) (by_eq d (pos 0)
@@ -67,28 +72,42 @@ merged k c d below above low high =
     nothing c d e = omega (arith, ints)
 
 -- what a partition point at a power says of the two parts
-pub below_point : (p : Laurent) (k : ℤ) (n : ℕ) → AllWithin (λ t. int_lt t.0 k ≡ true) p 0 n → AllByRecursion (λ t. t.0 <ℤ k) (take n p)
-below_point p k n point = all_take (λ t. t.0 <ℤ k) p n (λ i d lt in_range. below (get_or p i d).0 k (point i d (omega arith) lt))
+pub below_point : (p : Laurent) (k : ℤ) (n : ℕ) → AllWithin (λ t. int_lt t.0 k ≡ true) p 0 n
+    → AllByRecursion (λ t. t.0 <ℤ k) (take n p)
+below_point p k n point = all_take (λ t. t.0 <ℤ k) p n
+    (λ i d lt in_range. below (get_or p i d).0 k (point i d (omega arith) lt))
   where
     below : (a b : ℤ) → int_lt a b ≡ true → a <ℤ b
     below a b e = grind (arith, ints)
 
-pub above_point : (p : Laurent) (k : ℤ) (n : ℕ) → AllWithin (λ t. int_lt t.0 k ≡ false) p n (length p) → AllByRecursion (λ t. k ≤ℤ t.0) (drop n p)
-above_point p k n point = all_drop (λ t. k ≤ℤ t.0) p n (λ i d le in_range. not_below (get_or p i d).0 k (point i d le in_range))
+pub above_point : (p : Laurent) (k : ℤ) (n : ℕ) → AllWithin (λ t. int_lt t.0 k ≡ false) p n (length p)
+    → AllByRecursion (λ t. k ≤ℤ t.0) (drop n p)
+above_point p k n point = all_drop (λ t. k ≤ℤ t.0) p n
+    (λ i d le in_range. not_below (get_or p i d).0 k (point i d le in_range))
   where
     not_below : (a b : ℤ) → int_lt a b ≡ false → b ≤ℤ a
     not_below a b e = grind (arith, ints)
 
 -- a part of a list of terms has at most its size
-pub there_small : (k d : ℤ) (below others above terms : Laurent) → below ++ others ≡ terms → monomial k d ++ above ≡ others → unsigned_abs d ≤ size terms
+pub there_small : (k d : ℤ) (below others above terms : Laurent) → below ++ others ≡ terms
+    → monomial k d ++ above ≡ others → unsigned_abs d ≤ size terms
 there_small k d below others above terms e1 e2 =
-    omega (arith, size-append below others, ap size e1, size-append (monomial k d) above, ap size e2, size-monomial k d)
+    omega (
+      arith,
+      size-append below others,
+      ap size e1,
+      size-append (monomial k d) above,
+      ap size e2,
+      size-monomial k d,
+    )
 
 -- ---- what the code appends
 
-pub appended : (sum0 sum1 sum2 below m rest : Laurent) → sum1 ≡ sum0 ++ below → sum2 ≡ sum1 ++ m → sum2 ++ rest ≡ sum0 ++ (below ++ (m ++ rest))
+pub appended : (sum0 sum1 sum2 below m rest : Laurent) → sum1 ≡ sum0 ++ below → sum2 ≡ sum1 ++ m
+    → sum2 ++ rest ≡ sum0 ++ (below ++ (m ++ rest))
 appended sum0 sum1 sum2 below m rest e1 e2 =
-    ap (λ s. s ++ rest) (e2 ∙ ap (λ s. s ++ m) e1) ∙ append_assoc (sum0 ++ below) m rest ∙ append_assoc sum0 below (m ++ rest)
+    ap (λ s. s ++ rest) (e2 ∙ ap (λ s. s ++ m) e1) ∙ append_assoc (sum0 ++ below) m rest
+    ∙ append_assoc sum0 below (m ++ rest)
 
 pub appended_low : (sum0 sum1 sum2 below m : Laurent) (k : ℤ) → sum1 ≡ sum0 ++ below → sum2 ≡ sum1 ++ m
     → AllByRecursion (λ t. t.0 <ℤ k) below → AllByRecursion (λ t. t.0 ≤ℤ k) m

@@ -1,5 +1,6 @@
 //! Sums of ascending lists of terms.
-ghost use Rattle.std.specs.Prelude.{◌≡◌, ◌+◌, ◌*◌, ◌^◌, ◌<◌, ◌≤◌, unsigned_abs, IfOk, OnOk, IsTrue, ◌↔◌, [], ◌∷◌, ◌++◌, ◌<ℤ◌, ◌≤ℤ◌};
+ghost use Rattle.std.specs.Prelude.{◌≡◌, ◌+◌, ◌*◌, ◌^◌, ◌<◌, ◌≤◌, unsigned_abs, IfOk, OnOk, IsTrue, ◌↔◌, [], ◌∷◌};
+ghost use Rattle.std.specs.Prelude.{◌++◌, ◌<ℤ◌, ◌≤ℤ◌};
 ghost use Rattle.std.specs.List.{AllByRecursion};
 ghost use Rattle.sp_defs.specs.Laurent.{IsLaurent, size, monomial, add_term, plus, times};
 ghost use Rattle.sp_defs.specs.Within.{ProductWithin};
@@ -7,6 +8,14 @@ ghost use Rattle.sp_laurent.specs.Held.{power_limit};
 
 use crate::Term;
 use std::alloc::{AllocError, Global};
+
+/// The sum of the absolute values of the coefficients.
+pub(crate) fn size_of(terms: &[Term]) -> u128
+    requires { size terms.now < 2 ^ 127 }
+    ensures { result ≡ size terms.now }
+{
+    terms.iter().map(|term| term.1.unsigned_abs()).sum()
+}
 
 /// Whether a sum of sizes and a product of sizes stay within a limit.
 pub(crate) fn is_within(limit: u128, size: u128, a: u128, b: u128) -> bool
@@ -35,8 +44,8 @@ pub(crate) fn push_term(
     Ok(())
 }
 
-// The terms below a power, and the others.
-fn split_below(terms: &[Term], power: i32) -> (&[Term], &[Term])
+/// The terms below a power, and the others.
+pub(crate) fn split_below(terms: &[Term], power: i32) -> (&[Term], &[Term])
     requires { IsLaurent terms.now }
     ensures joined { result.0.now ++ result.1.now ≡ terms.now }
     ensures below { AllByRecursion (λ t. t.0 <ℤ power) result.0.now }
@@ -45,8 +54,8 @@ fn split_below(terms: &[Term], power: i32) -> (&[Term], &[Term])
     terms.split_at(terms.partition_point(|term| term.0 < power))
 }
 
-// The coefficient at a power that no term is below, and the terms above that power.
-fn split_first(terms: &[Term], power: i32) -> (i128, &[Term])
+/// The coefficient at a power that no term is below, and the terms above that power.
+pub(crate) fn split_first(terms: &[Term], power: i32) -> (i128, &[Term])
     requires laurent { IsLaurent terms.now }
     requires above { AllByRecursion (λ t. power ≤ℤ t.0) terms.now }
     ensures joined { monomial power result.0 ++ result.1.now ≡ terms.now }
@@ -72,8 +81,10 @@ fn merge_term<'a>(
 ) -> Result<&'a [Term], AllocError>
     requires laurent { IsLaurent terms.now }
     requires fits { size terms.now + unsigned_abs coefficient < 2 ^ 127 }
-    ensures joined { IfOk result (λ rest. sum.new.items ++ rest.now ≡ sum.old.items ++ add_term power coefficient terms.now) }
-    ensures low { OnOk result (AllByRecursion (λ t. t.0 <ℤ power) sum.old.items → AllByRecursion (λ t. t.0 ≤ℤ power) sum.new.items) }
+    ensures joined { IfOk result (λ rest.
+        sum.new.items ++ rest.now ≡ sum.old.items ++ add_term power coefficient terms.now) }
+    ensures low { OnOk result (AllByRecursion (λ t. t.0 <ℤ power) sum.old.items
+        → AllByRecursion (λ t. t.0 ≤ℤ power) sum.new.items) }
     ensures smaller { IfOk result (λ rest. size rest.now ≤ size terms.now) }
 {
     let (below, others) = split_below(terms, power);

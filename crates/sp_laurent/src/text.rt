@@ -32,7 +32,11 @@ fn print_factor(out: &mut Vec<u8>, number: u128) -> Result<(), AllocError>
     ensures ok { OnOk result (out.new.items ≡ out.old.items ++ cond (number == 1) [] (decimal number)) }
     ensures grown { IsGrown out.old.items out.new.items }
 {
-    if number == 1 { Ok(()) } else { print_number(out, number) }
+    if number == 1 {
+        Ok(())
+    } else {
+        print_number(out, number)
+    }
 }
 
 /// Appends a term without its sign. Where memory fails, a part of it may be appended.
@@ -51,7 +55,8 @@ pub fn print_term(out: &mut Vec<u8>, term: Term) -> Result<(), AllocError>
 
 // The first term, with its sign where it is negative.
 fn print_first(out: &mut Vec<u8>, term: Term) -> Result<(), AllocError>
-    ensures ok { OnOk result (out.new.items ≡ out.old.items ++ (cond (is_negative term) (codes "-") [] ++ term_text term)) }
+    ensures ok { OnOk result (
+        out.new.items ≡ out.old.items ++ (cond (is_negative term) (codes "-") [] ++ term_text term)) }
     ensures grown { IsGrown out.old.items out.new.items }
 {
     if term.1 < 0 {

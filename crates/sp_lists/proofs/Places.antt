@@ -1,28 +1,39 @@
 -- What holds of each element, by the places of the elements.
-use Rattle.std.proofs.Common.{◌≡◌, ℕ, zero, suc, ◌-◌, ◌<◌, ◌≤◌, List, [], ◌∷◌, take, drop, length, get_or, refl, ap, arith}
+use Rattle.std.proofs.Common.{◌≡◌, ℕ, zero, suc, ◌-◌, ◌<◌, ◌≤◌, List, [], ◌∷◌, take, drop, length, get_or, refl, ap}
+use Rattle.std.proofs.Common.{arith}
 use Rattle.std.specs.List.{AllByRecursion}
 
-pub all_weaken : {X : Type 0} (P Q : X → Type 0) (xs : List X) → ((x : X) → P x → Q x) → AllByRecursion P xs → AllByRecursion Q xs
+pub all_weaken : {X : Type 0} (P Q : X → Type 0) (xs : List X) → ((x : X) → P x → Q x) → AllByRecursion P xs
+    → AllByRecursion Q xs
 all_weaken P Q [] f h = tt
 all_weaken P Q (x ∷ xs) f (h, hs) = (f x h, all_weaken P Q xs f hs)
 
-pub all_at : {X : Type 0} (P : X → Type 0) (xs : List X) (i : ℕ) (d : X) → AllByRecursion P xs → i < length xs → P (get_or xs i d)
+pub all_at : {X : Type 0} (P : X → Type 0) (xs : List X) (i : ℕ) (d : X) → AllByRecursion P xs → i < length xs
+    → P (get_or xs i d)
 all_at P [] i d h lt = absurd (omega arith)
 all_at P (x ∷ xs) zero d (h, hs) lt = h
 all_at P (x ∷ xs) (suc i) d (h, hs) lt = all_at P xs i d hs (omega arith)
 
-pub all_take : {X : Type 0} (P : X → Type 0) (xs : List X) (n : ℕ) → ((i : ℕ) (d : X) → i < n → i < length xs → P (get_or xs i d)) → AllByRecursion P (take n xs)
+pub all_take : {X : Type 0} (P : X → Type 0) (xs : List X) (n : ℕ)
+    → ((i : ℕ) (d : X) → i < n → i < length xs → P (get_or xs i d)) → AllByRecursion P (take n xs)
 all_take P [] zero f = tt
 all_take P [] (suc n) f = tt
 all_take P (x ∷ xs) zero f = tt
-all_take P (x ∷ xs) (suc n) f =
-    (f zero x (omega arith) (omega arith), all_take P xs n (λ i d lt in_range. f (suc i) d (omega arith) (omega arith)))
+all_take P (x ∷ xs) (suc n) f = (
+  f zero x (omega arith) (omega arith),
+  all_take P xs n
+      (λ i d lt in_range. f (suc i) d (omega arith) (omega arith)),
+)
 
-pub all_drop : {X : Type 0} (P : X → Type 0) (xs : List X) (n : ℕ) → ((i : ℕ) (d : X) → n ≤ i → i < length xs → P (get_or xs i d)) → AllByRecursion P (drop n xs)
+pub all_drop : {X : Type 0} (P : X → Type 0) (xs : List X) (n : ℕ)
+    → ((i : ℕ) (d : X) → n ≤ i → i < length xs → P (get_or xs i d)) → AllByRecursion P (drop n xs)
 all_drop P [] zero f = tt
 all_drop P [] (suc n) f = tt
-all_drop P (x ∷ xs) zero f =
-    (f zero x (omega arith) (omega arith), all_drop P xs zero (λ i d le in_range. f (suc i) d (omega arith) (omega arith)))
+all_drop P (x ∷ xs) zero f = (
+  f zero x (omega arith) (omega arith),
+  all_drop P xs zero
+      (λ i d le in_range. f (suc i) d (omega arith) (omega arith)),
+)
 all_drop P (x ∷ xs) (suc n) f = all_drop P xs n (λ i d le in_range. f (suc i) d (omega arith) (omega arith))
 
 -- a list without its first element, as a pattern takes it

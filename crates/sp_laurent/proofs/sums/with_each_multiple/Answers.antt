@@ -8,7 +8,8 @@ use Rattle.sp_laurent.proofs.sums.with_each_multiple.Goals as goal
 pub returns-in_default : goal.returns-in_default
 returns-in_default c =
     let same = no_product c.args.terms.now c.args.few.now c.args.many.now c.requires.laurent c.in_default.len_below in
-    IfOk-weaker c.from_slice.result (λ v. v.items ≡ c.args.terms.now) (λ v. v.items ≡ plus c.args.terms.now (times c.args.few.now c.args.many.now))
+    IfOk-weaker c.from_slice.result (λ v. v.items ≡ c.args.terms.now)
+    (λ v. v.items ≡ plus c.args.terms.now (times c.args.few.now c.args.many.now))
     (λ v e. e ∙ sym same) c.from_slice.ensures.items
 
 pub with_multiple-requires-in-loop-term-clause-laurent : goal.with_multiple-requires-in-loop-term-clause-laurent
@@ -19,7 +20,13 @@ pub with_multiple-requires-in-loop-term-clause-fits : goal.with_multiple-require
 with_multiple-requires-in-loop-term-clause-fits c =
     let small = part_fits _ _ _ _ _ c.loop-term.invariant (pos 0, pos 0) (2 ^ 127) (omega arith) c.requires.fits in
     let term = rest_at c.args.few.now c.loop-term.term-index (pos 0, pos 0) in
-    omega (arith, small, ap size c.deref.ensures.value, ap (λ (t : Term). unsigned_abs t.1 * size c.args.many.now) term)
+    omega (
+      arith,
+      small,
+      ap size c.deref.ensures.value,
+      ap
+          (λ (t : Term). unsigned_abs t.1 * size c.args.many.now) term,
+    )
 
 pub loop-term-preserved : goal.loop-term-preserved
 loop-term-preserved c =

@@ -9,5 +9,6 @@ returns-else-a-b c =
     let terms = c.args.terms.now in
     let a = c.args.a.now in
     let b = c.args.b.now in
-    IfOk-weaker c.with_each_multiple-else-a-b.result (λ sum. sum.items ≡ plus terms (times b a)) (λ sum. sum.items ≡ plus terms (times a b))
+    IfOk-weaker c.with_each_multiple-else-a-b.result (λ sum. sum.items ≡ plus terms (times b a))
+    (λ sum. sum.items ≡ plus terms (times a b))
     (λ sum e. e ∙ ap (plus terms) (times_comm b a)) c.with_each_multiple-else-a-b.ensures

@@ -1,10 +1,11 @@
-use Rattle.std.proofs.Common.{◌≡◌, ◌∙◌, ◌++◌, ap, pos, sym, get_or, take, drop, length, ◌-◌}
-use Rattle.sp_laurent.proofs.Texts.{no_text, written_none, written_grown, written_more, written_all}
+use Rattle.std.proofs.Common.{◌∙◌, ◌++◌, ap, pos, sym}
+use Rattle.sp_laurent.proofs.Texts.{no_text, written_all}
 use Rattle.sp_laurent.proofs.text.print_terms.Goals as goal
 
 pub returns-in_default-clause-ok : goal.returns-in_default-clause-ok
 returns-in_default-clause-ok c =
-    c.in_ok-push.ensures.items ∙ ap (λ t. c.args.out.now.items ++ t) (sym (no_text c.args.terms.now c.in_default.len_below))
+    c.in_ok-push.ensures.items ∙ ap (λ t. c.args.out.now.items ++ t)
+    (sym (no_text c.args.terms.now c.in_default.len_below))
 
 pub returns-clause-ok : goal.returns-clause-ok
 returns-clause-ok c =
