@@ -5,3 +5,10 @@ pub mod Shrinking
 pub mod Regularity
 pub mod Runs
 pub mod Kept
+pub mod Numbers
+pub mod Extending
+pub mod Marks
+pub mod ItemReading
+pub mod ListReading
+pub mod Progress
+pub mod Canonical

@@ -1,10 +1,13 @@
 //! Partitions of at most 32: their order, their nodes and their text.
 #![tactic(auto)]
 
+mod items;
 mod order;
 mod partition;
+mod reader;
 mod text;
 
+pub use items::Items;
 pub use partition::{NotPartition, Partition};
 
 /// The greatest degree that the program's commands take.
@@ -12,3 +15,6 @@ pub const DEGREE_LIMIT: u8 = 20;
 
 /// The greatest degree of a `Partition`, and so the greatest number of its parts.
 pub const CAPACITY: u8 = 32;
+
+#[cfg(test)]
+mod tests;

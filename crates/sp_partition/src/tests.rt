@@ -1,0 +1,114 @@
+use crate::{Items, NotPartition, Partition};
+use std::test::Fail;
+
+fn read(text: &[u8]) -> Result<Partition, Fail> {
+    Ok(Partition::parse(text)?)
+}
+
+#[test]
+fn prints_what_it_reads(rt: HostRuntime) -> Result<(), Fail> {
+    for text in ["-", "5", "3,1^2", "2^2,1", "1^32"] {
+        let mut out = Vec::new(rt.alloc());
+        read(text.as_bytes())?.print(rt.alloc(), &mut out)?;
+        assert_eq!(rt; out.as_slice(), text.as_bytes());
+    }
+    assert_eq!(rt; read(b"3,1^2")?.parts(), [3, 1, 1].as_slice());
+    assert_eq!(rt; read(b"3,1^2")?.degree(), 5);
+    Ok(())
+}
+
+#[test]
+fn refuses_other_texts(rt: HostRuntime) {
+    for text in [
+        "", "0", "01", "3,", ",3", "3^1", "3^", "^2", "3^02", "1,3", "3,1,1", "2,2", "--", "a",
+        "3 ",
+    ] {
+        assert_eq!(rt;
+            Partition::parse(text.as_bytes()).err(),
+            Some(NotPartition::Shape),
+            "{text}"
+        );
+    }
+    let long = "9999999999999999999999999999999999999999999999999999999999999999999999";
+    for text in [
+        "33",
+        "20^2",
+        "17,16",
+        "1^33",
+        "256",
+        "1^256",
+        "40,39^99999999999999999999,2",
+        long,
+    ] {
+        assert_eq!(rt;
+            Partition::parse(text.as_bytes()).err(),
+            Some(NotPartition::PastCapacity),
+            "{text}"
+        );
+    }
+    assert_eq!(rt;
+        Partition::parse(b"300,301").err(),
+        Some(NotPartition::Shape)
+    );
+}
+
+#[test]
+fn takes_parts(rt: HostRuntime) -> Result<(), Fail> {
+    assert_eq!(rt; Partition::from_parts(&[])?, Partition::empty());
+    assert_eq!(rt; Partition::from_parts(&[3, 1, 1])?, read(b"3,1^2")?);
+    assert_eq!(rt;
+        Partition::from_parts(&[1, 3]).err(),
+        Some(NotPartition::Shape)
+    );
+    assert_eq!(rt;
+        Partition::from_parts(&[3, 0]).err(),
+        Some(NotPartition::Shape)
+    );
+    assert_eq!(rt;
+        Partition::from_parts(&[255, 255]).err(),
+        Some(NotPartition::PastCapacity)
+    );
+    Ok(())
+}
+
+#[test]
+fn orders_by_degree_first(rt: HostRuntime) -> Result<(), Fail> {
+    assert!(rt; read(b"1^2")? < read(b"2")?);
+    assert!(rt; read(b"2")? < read(b"1^3")?);
+    assert!(rt; read(b"2^2,1")? < read(b"3,1^2")?);
+    assert!(rt; read(b"-")? < read(b"1")?);
+    Ok(())
+}
+
+#[test]
+fn moves_nodes(rt: HostRuntime) -> Result<(), Fail> {
+    let p = read(b"3,1^2")?;
+    assert_eq!(rt; p.add_node(0), None);
+    assert_eq!(rt; p.add_node(1), Some(read(b"4,1^2")?));
+    assert_eq!(rt; p.add_node(2), Some(read(b"3,2,1")?));
+    assert_eq!(rt; p.add_node(3), None);
+    assert_eq!(rt; p.add_node(4), Some(read(b"3,1^3")?));
+    assert_eq!(rt; p.add_node(5), None);
+    assert_eq!(rt; read(b"1^32")?.add_node(1), None);
+    assert_eq!(rt; p.remove_node(1), Some(read(b"2,1^2")?));
+    assert_eq!(rt; p.remove_node(2), None);
+    assert_eq!(rt; p.remove_node(3), Some(read(b"3,1")?));
+    assert_eq!(rt; p.remove_node(4), None);
+    Ok(())
+}
+
+#[test]
+fn knows_regular_partitions(rt: HostRuntime) -> Result<(), Fail> {
+    assert!(rt; !read(b"3,1^2")?.is_regular(2));
+    assert!(rt; read(b"3,1^2")?.is_regular(3));
+    assert!(rt; read(b"-")?.is_regular(2));
+    Ok(())
+}
+
+#[test]
+fn keeps_items(rt: HostRuntime) -> Result<(), Fail> {
+    let items = Items::of([1, 2].to_vec(rt.alloc())?);
+    assert_eq!(rt; items.as_slice(), [1, 2].as_slice());
+    assert_eq!(rt; items.into_vec().len(), 2);
+    Ok(())
+}
