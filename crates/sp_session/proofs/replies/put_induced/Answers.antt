@@ -17,4 +17,4 @@ returns-in-Ok c =
 pub unreachable-requires : goal.unreachable-requires
 unreachable-requires c =
     never_too_large c.args.p.now c.in_ok-one.one c.in_ok-one.ensures.partition c.in_ok-one.ensures.vector c.args.e c.args.i c.args.m
-    c.args.limit c.requires.least (c.in-Err-TooLarge.ensures.too_large c.in-Err-TooLarge.field-0-is)
+    c.args.limit c.requires.least (c.in-Err-TooLarge.ensures.too_large (let fault = c.in-Err-TooLarge.field-0-is in cc))
