@@ -183,7 +183,7 @@ room_next limit e mu t m n v label lt so_far mi ni =
     let after = nodes_added-more (steps e mu) t (record { residue = 0; count = 0 }) lt in
     let part : nodes_added (take (t + 1) (steps e mu)) ≤ nodes_added (steps e mu) = sum_by-take-le (λ s. s.count) (steps e mu) (t + 1) in
     let whole : nodes_added (steps e mu) ≡ degree mu =
-        ap nodes_added (sym (take_all (length (steps e mu)) (steps e mu) (omega arith))) ∙ degree_after_all e mu label in
+    ap nodes_added (sym (take_all (length (steps e mu)) (steps e mu) (omega arith))) ∙ degree_after_all e mu label in
     omega (arith, before, after, part, whole, mi)
 
 -- ---- what the code needs for a step
@@ -229,7 +229,7 @@ pub powers_small : (limit e : ℕ) (mu : List ℕ) (t : ℕ) (v : FockVector) �
 powers_small limit e mu t v label small so_far =
     let part : nodes_added (take t (steps e mu)) ≤ nodes_added (steps e mu) = sum_by-take-le (λ s. s.count) (steps e mu) t in
     let whole : nodes_added (steps e mu) ≡ degree mu =
-        ap nodes_added (sym (take_all (length (steps e mu)) (steps e mu) (omega arith))) ∙ degree_after_all e mu label in
+    ap nodes_added (sym (take_all (length (steps e mu)) (steps e mu) (omega arith))) ∙ degree_after_all e mu label in
     powers_weaken (33 * degree_after e mu t) 500000000 v.entries (omega (arith, part, whole, small)) so_far.powers
 
 -- What an induction adds to the powers.

@@ -24,8 +24,8 @@ module _ (p : List ℕ) (one : FockVector) (pp : IsPartition p) (is : one ≡ fo
   pub never_too_large : (e i m limit : ℕ) → 1 ≤ limit → limit < induction_weight e i m one.degree (vector_of one.entries) → ⊥
   never_too_large e i m limit least past =
       let same : induction_weight e i m one.degree (vector_of one.entries) ≡ induction_weight e i m (degree p) (unit p) =
-          ap (λ (u : FockVector). induction_weight e i m u.degree (vector_of one.entries)) is
-          ∙ induction_weight-alike e i m (degree p) (vector_of one.entries) (unit p) values in
+      ap (λ (u : FockVector). induction_weight e i m u.degree (vector_of one.entries)) is
+      ∙ induction_weight-alike e i m (degree p) (vector_of one.entries) (unit p) values in
       absurd (omega (arith, same, unit_weight e i m p, past, least))
 
   pub powers_small : AllByRecursion (λ s. PowersWithin 500000000 s.1) one.entries

@@ -27,16 +27,16 @@ induce-requires-clause-room c =
     let is = c.as_slice-step-items.ensures.value ∙ c.ladders-steps.ensures in
     let step = step_facts c.args.e c.args.mu.now c.as_slice-step-items.result.now c.loop-step.step-index none c.requires.e_least is c.loop-step-test.true in
     let label : IsLabel c.args.e c.args.mu.now =
-        record { e_least = c.requires.e_least; partition = c.in_ok-vector.ensures.held.partition; regular = c.requires.regular } in
+    record { e_least = c.requires.e_least; partition = c.in_ok-vector.ensures.held.partition; regular = c.requires.regular } in
     let room = room_next c.args.limit c.args.e c.args.mu.now c.loop-step.step-index _ c.loop-step.vector.degree c.loop-step.vector label
-        step.early c.loop-step.invariant step.count refl in
+    step.early c.loop-step.invariant step.count refl in
     let small : degree c.args.mu.now ≤ 32 = c.in_ok-vector.ensures.held.small in
     le_trans room small
 
 pub induce-requires-clause-powers : goal.induce-requires-clause-powers
 induce-requires-clause-powers c =
     let label : IsLabel c.args.e c.args.mu.now =
-        record { e_least = c.requires.e_least; partition = c.in_ok-vector.ensures.held.partition; regular = c.requires.regular } in
+    record { e_least = c.requires.e_least; partition = c.in_ok-vector.ensures.held.partition; regular = c.requires.regular } in
     powers_small c.args.limit c.args.e c.args.mu.now c.loop-step.step-index c.loop-step.vector label c.in_ok-vector.ensures.held.small
     c.loop-step.invariant
 
@@ -46,7 +46,7 @@ returns-in-Err-clause-too_large c = λ large.
     let is = c.as_slice-step-items.ensures.value ∙ c.ladders-steps.ensures in
     let step = step_facts c.args.e c.args.mu.now c.as_slice-step-items.result.now c.loop-step.step-index none c.requires.e_least is c.loop-step-test.true in
     let label : IsLabel c.args.e c.args.mu.now =
-        record { e_least = c.requires.e_least; partition = c.in_ok-vector.ensures.held.partition; regular = c.requires.regular } in
+    record { e_least = c.requires.e_least; partition = c.in_ok-vector.ensures.held.partition; regular = c.requires.regular } in
     past_next c.args.limit c.args.e c.args.mu.now c.loop-step.step-index _ _ c.loop-step.vector.degree c.loop-step.vector label
     step.early c.loop-step.invariant step.residue step.count refl (c.in-Err.ensures.too_large large)
 
@@ -57,7 +57,7 @@ loop-step-preserved c =
     let now = get_or c.as_slice-step-items.result.now c.loop-step.step-index none in
     let step = step_facts c.args.e c.args.mu.now c.as_slice-step-items.result.now c.loop-step.step-index none c.requires.e_least is c.loop-step-test.true in
     let label : IsLabel c.args.e c.args.mu.now =
-        record { e_least = c.requires.e_least; partition = c.in_ok-vector.ensures.held.partition; regular = c.requires.regular } in
+    record { e_least = c.requires.e_least; partition = c.in_ok-vector.ensures.held.partition; regular = c.requires.regular } in
     let v = c.loop-step.vector in
     let far : ℕ = 33 * degree_after c.args.e c.args.mu.now c.loop-step.step-index in
     let small : degree c.args.mu.now ≤ 32 = c.in_ok-vector.ensures.held.small in
@@ -70,7 +70,7 @@ loop-step-preserved c =
 pub returns-clause-vector : goal.returns-clause-vector
 returns-clause-vector c =
     let label : IsLabel c.args.e c.args.mu.now =
-        record { e_least = c.requires.e_least; partition = c.in_ok-vector.ensures.held.partition; regular = c.requires.regular } in
+    record { e_least = c.requires.e_least; partition = c.in_ok-vector.ensures.held.partition; regular = c.requires.regular } in
     let size = all_steps c.args.e c.args.mu.now c.as_slice-step-items.result.now (c.as_slice-step-items.ensures.value ∙ c.ladders-steps.ensures) in
     after_all c.args.limit c.args.e c.args.mu.now c.loop-step.step-index c.loop-step.vector label
     (omega (arith, size)) (omega (arith, size)) c.loop-step.invariant
@@ -84,8 +84,8 @@ returns-clause-fits c =
 pub returns-clause-law : goal.returns-clause-law
 returns-clause-law c =
     let label : IsLabel c.args.e c.args.mu.now =
-        record { e_least = c.requires.e_least; partition = c.in_ok-vector.ensures.held.partition; regular = c.requires.regular } in
+    record { e_least = c.requires.e_least; partition = c.in_ok-vector.ensures.held.partition; regular = c.requires.regular } in
     let size = all_steps c.args.e c.args.mu.now c.as_slice-step-items.result.now (c.as_slice-step-items.ensures.value ∙ c.ladders-steps.ensures) in
     let is = after_all c.args.limit c.args.e c.args.mu.now c.loop-step.step-index c.loop-step.vector label
-        (omega (arith, size)) (omega (arith, size)) c.loop-step.invariant in
+    (omega (arith, size)) (omega (arith, size)) c.loop-step.invariant in
     subst (λ (v : FockVector). ObeysLadderLaw c.args.e c.args.mu.now v.entries) (sym is) (obeys c.args.e c.args.mu.now label)
