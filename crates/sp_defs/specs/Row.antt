@@ -1,8 +1,8 @@
 -- Regular rows, shares, weights and outcomes, over a family of vectors A, which is the ladder vectors.
 -- Lascoux, Leclerc and Thibon, 1996: Hecke algebras at roots of unity and crystal bases of quantum affine algebras.
 use Rattle.std.specs.Prelude.{◌≡◌, ℕ, ◌+◌, ◌*◌, Bool, cond, nat_lt, not, List, [], ◌∷◌, map, reverse, length, filter}
-use Rattle.std.specs.Prelude.{find, flat_map, ◌&&◌, max, fold, sum_by, Option, Some, None, ◌≢◌, pos}
-use Rattle.std.specs.List.{list_any, list_all, range_with_len, AllByRecursion}
+use Rattle.std.specs.Prelude.{find, ◌&&◌, max, sum_by, Option, Some, None, ◌≢◌, pos}
+use Rattle.std.specs.List.{list_any, list_all, AllByRecursion}
 use Rattle.std.specs.Ordering.{is_lt, is_eq, is_gt, int_cmp}
 use Rattle.sp_defs.specs.Partition.{IsPartition, degree, partitions, regulars, compare}
 use Rattle.sp_defs.specs.Laurent.{Laurent, one, plus, negate, times, lift, sum_over, size, IsBarInvariant, IsPositive}

@@ -1,6 +1,6 @@
 -- The canonical texts of partitions, Laurent polynomials and vectors, as lists of ASCII codes.
 use Rattle.std.specs.Prelude.{ℕ, ◌==◌, Bool, false, cond, ◌&&◌, nat_lt, nat_eq, not, List, [], ◌∷◌, ◌++◌, map, reverse}
-use Rattle.std.specs.Prelude.{length, count_by, filter, flat_map, codes, ℤ, pos, int_lt, unsigned_abs}
+use Rattle.std.specs.Prelude.{count_by, filter, flat_map, codes, ℤ, pos, int_lt, unsigned_abs}
 use Rattle.std.specs.Ordering.{int_eq}
 use Rattle.std.specs.Fmt.{decimal, signed_decimal}
 use Rattle.sp_defs.specs.Laurent.{Laurent, Term}

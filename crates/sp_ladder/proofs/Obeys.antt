@@ -1,9 +1,9 @@
 -- The ladder law at the entries of a ladder vector.
-use Rattle.std.proofs.Common.{◌≡◌, ◌≢◌, ℕ, List, [], ◌∷◌, refl, sym, ◌∙◌, ap, subst}
+use Rattle.std.proofs.Common.{◌≢◌, ℕ, List, [], refl, ◌∙◌}
 use Rattle.std.specs.List.{AllByRecursion}
 use Rattle.sp_defs.specs.Partition.{degree, partitions, IsPartition, IsPartitionOf, Dominates}
-use Rattle.sp_defs.specs.Laurent.{Laurent, one}
-use Rattle.sp_defs.specs.Power.{entries, vector_of}
+use Rattle.sp_defs.specs.Laurent.{Laurent}
+use Rattle.sp_defs.specs.Power.{entries}
 use Rattle.sp_defs.specs.Ladder.{ladder_vector}
 use Rattle.sp_defs.specs.Statements.{IsLabel, SameContent}
 use Rattle.sp_shapes.proofs.Order.{all_mono}

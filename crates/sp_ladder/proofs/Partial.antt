@@ -1,13 +1,13 @@
 -- From one partial ladder vector to the next, as the code holds them.
 use Rattle.std.proofs.Common.{◌≡◌, ℕ, zero, suc, ◌+◌, ◌*◌, ◌<◌, ◌≤◌, List, [], ◌∷◌, map, length, get_or, refl, sym, ◌∙◌, ap, ap₂}
-use Rattle.std.proofs.Common.{subst, arith, take, unsigned_abs, pos, sum_by}
+use Rattle.std.proofs.Common.{subst, arith, take, unsigned_abs}
 use Rattle.std.specs.List.{AllByRecursion}
 use Rattle.std.proofs.lemmas.List.Sums.{sum_by-take-le, sum_by-cons}
 use Rattle.std.proofs.lemmas.List.{take_all}
-use Rattle.sp_defs.specs.Partition.{degree, IsPartition, IsPartitionOf, compare}
+use Rattle.sp_defs.specs.Partition.{degree, IsPartition, IsPartitionOf}
 use Rattle.sp_defs.specs.Laurent.{Laurent, one, plus, collect, add_term, sum_over}
 use Rattle.sp_defs.specs.Within.{PowersWithin}
-use Rattle.sp_defs.specs.Power.{Vector, Entries, vector_of, entries, unit, divided_power, induction_weight, FockVector, fock_vector}
+use Rattle.sp_defs.specs.Power.{Vector, Entries, vector_of, unit, divided_power, induction_weight, FockVector, fock_vector}
 use Rattle.sp_defs.specs.Ladder.{Step, steps, ladders, ladder_residue, on_ladder, partial_ladder_vector, ladder_vector, ladder_weight, chain_sum}
 use Rattle.sp_defs.specs.Ladder.{chains_to, chain_exponent}
 use Rattle.sp_defs.specs.Statements.{IsLabel}

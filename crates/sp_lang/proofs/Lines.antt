@@ -1,6 +1,6 @@
 -- How the words of a line say a command: numbers past a byte say none.
-use Rattle.std.proofs.Common.{◌≡◌, ◌≢◌, ℕ, ◌+◌, ◌<◌, ◌≤◌, cond, Bool, true, false, ◌&&◌, List, [], ◌∷◌, refl, sym, ◌∙◌, ap, ap₂}
-use Rattle.std.proofs.Common.{nat_lt, nat_le, arith, cond, eqb, subst, ◌⊎◌, inl, inr}
+use Rattle.std.proofs.Common.{◌≡◌, ◌≢◌, ℕ, ◌+◌, ◌<◌, ◌≤◌, cond, Bool, true, false, ◌&&◌, List, [], ◌∷◌, refl, sym, ◌∙◌, ap}
+use Rattle.std.proofs.Common.{nat_lt, nat_le, arith, cond, eqb, subst}
 use Rattle.std.proofs.lemmas.Bool.{ltb-false, ltb-true, leb-true, lt-leb}
 use Rattle.std.specs.Prelude.{Option, Some, None, codes, IfSome}
 use Rattle.sp_defs.specs.Partition.{degree, is_regular}

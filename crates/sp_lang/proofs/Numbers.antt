@@ -1,10 +1,10 @@
 -- Which number a word says, where it is small.
-use Rattle.std.proofs.Common.{◌≡◌, ℕ, ◌+◌, ◌^◌, ◌<◌, ◌≤◌, cond, Bool, true, false, List, length, refl, sym, ◌∙◌, ap, arith, eqb}
-use Rattle.std.proofs.Common.{nat_lt, lt-ltb, le-ltb, ◌⊎◌, inl, inr}
+use Rattle.std.proofs.Common.{◌≡◌, ℕ, ◌<◌, ◌≤◌, cond, Bool, true, false, List, length, refl, ◌∙◌, ap, arith}
+use Rattle.std.proofs.Common.{lt-ltb, le-ltb, ◌⊎◌, inl, inr}
 use Rattle.sp_lists.proofs.Elements.{le_or_lt}
 use Rattle.std.specs.Prelude.{Option, Some, None}
 use Rattle.std.specs.Fmt.{decimal}
-use Rattle.std.specs.Cmp.Lexicographic.{pointwise, bytes_decides}
+use Rattle.std.specs.Cmp.Lexicographic.{bytes_decides}
 use Rattle.std.proofs.lemmas.Fmt.{length-decimal-le}
 use Rattle.sp_lang.specs.Words.{is_text, digits_value, number_of}
 use Rattle.sp_lang.specs.Small.{small}

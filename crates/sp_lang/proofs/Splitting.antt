@@ -1,10 +1,10 @@
 -- The words of a text by the place of its first space.
-use Rattle.std.proofs.Common.{◌≡◌, ℕ, zero, suc, ◌+◌, ◌-◌, ◌<◌, ◌≤◌, ◌⊎◌, inl, inr, eqb, cond, not, Bool, true, false, List, [], ◌∷◌}
-use Rattle.std.proofs.Common.{take, drop, length, refl, sym, ◌∙◌, ap, ap₂, subst, nat_lt, arith, lt-ltb, le-ltb}
+use Rattle.std.proofs.Common.{◌≡◌, ℕ, suc, ◌+◌, ◌-◌, ◌<◌, ◌≤◌, ◌⊎◌, inl, inr, eqb, cond, not, Bool, true, false, List, [], ◌∷◌}
+use Rattle.std.proofs.Common.{take, drop, length, refl, sym, ◌∙◌, ap, ap₂, subst, arith, lt-ltb, le-ltb}
 use Rattle.std.proofs.Common.{length-drop}
 use Rattle.std.proofs.lemmas.List.{take_all}
 use Rattle.std.specs.List.{prefix_len, position}
-use Rattle.std.specs.Prelude.{Option, Some, None, MatchOption}
+use Rattle.std.specs.Prelude.{Some, None, MatchOption}
 use Rattle.sp_lang.specs.Words.{words, onto_first}
 
 -- How many bytes stand before the first space.

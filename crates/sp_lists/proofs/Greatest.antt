@@ -1,5 +1,5 @@
 -- The greatest of a list of numbers.
-use Rattle.std.proofs.Common.{◌≡◌, ℕ, ◌<◌, ◌≤◌, max, fold, List, [], ◌∷◌, map, refl, sym, ◌∙◌, ap, arith, ◌↔◌}
+use Rattle.std.proofs.Common.{ℕ, ◌≤◌, max, fold, List, [], ◌∷◌, map, arith, ◌↔◌}
 use Rattle.std.specs.List.{AllByRecursion}
 
 -- the greatest of a start and a list

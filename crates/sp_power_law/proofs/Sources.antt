@@ -1,13 +1,13 @@
 -- What a divided power takes from a vector of degree n: its values at the partitions of n, and their sizes.
 use Rattle.std.proofs.Common.{◌≡◌, ℕ, ◌+◌, ◌-◌, ◌≤◌, max, fold, true, cond, List, [], ◌∷◌}
-use Rattle.std.proofs.Common.{map, length, refl, sym, ◌∙◌, ap, ap₂, subst, arith, sum_by, filter, Less, Equal, Greater, nat_lt}
+use Rattle.std.proofs.Common.{map, refl, sym, ◌∙◌, ap, ap₂, subst, arith, sum_by, filter, Less, Equal, Greater}
 use Rattle.std.specs.List.{AllByRecursion}
 use Rattle.std.specs.Ordering.{is_eq}
 use Rattle.std.specs.declared.cmp.Ordering.{Ordering}
 use Rattle.std.proofs.lemmas.List.Sums.{sum_by-cons}
 use Rattle.sp_defs.specs.Partition.{degree, partitions, compare, Ascending, IsPartitionOf}
 use Rattle.sp_defs.specs.Laurent.{Laurent, one, power, times, size}
-use Rattle.sp_defs.specs.Power.{Vector, entries, unit, is_move, exponent, sources}
+use Rattle.sp_defs.specs.Power.{Vector, unit, is_move, exponent, sources}
 use Rattle.sp_defs.specs.Power.{divided_power, reaching_size, induction_weight}
 use Rattle.sp_lists.proofs.Elements.{all_filter}
 use Rattle.sp_lists.proofs.Greatest.{greatest_within, map_within}

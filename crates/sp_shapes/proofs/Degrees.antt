@@ -1,5 +1,5 @@
 -- The degree of a partition: its parts, their number and their sum.
-use Rattle.std.proofs.Common.{ℕ, ◌+◌, ◌≤◌, List, [], ◌∷◌, length, sum, arith}
+use Rattle.std.proofs.Common.{ℕ, ◌≤◌, List, [], ◌∷◌, length, arith}
 use Rattle.std.proofs.lemmas.List.Sums.{sum_by-cons}
 use Rattle.sp_defs.specs.Partition.{degree, IsPartition}
 use Rattle.sp_shapes.proofs.Diagram.{IsPartition-tail, IsPartition-head}

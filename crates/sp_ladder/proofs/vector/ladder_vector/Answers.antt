@@ -1,12 +1,10 @@
-use Rattle.std.proofs.Common.{◌≡◌, ◌+◌, ◌*◌, ◌<◌, ◌≤◌, ℕ, List, map, length, sym, ◌∙◌, ap, subst, arith, get_or, refl, le_trans}
+use Rattle.std.proofs.Common.{◌*◌, ◌≤◌, ℕ, sym, ◌∙◌, subst, arith, get_or, refl, le_trans}
 use Rattle.sp_defs.specs.Partition.{degree}
 use Rattle.sp_defs.specs.Power.{FockVector}
-use Rattle.sp_defs.specs.Ladder.{ladders, steps, ladder_weight, ladder_vector}
 use Rattle.sp_defs.specs.Statements.{IsLabel}
 use Rattle.sp_ladder.specs.declared.step.Step.{Step}
-use Rattle.sp_ladder.specs.Steps.{step_on}
 use Rattle.sp_ladder.specs.Obeys.{ObeysLadderLaw}
-use Rattle.sp_ladder.proofs.Partial.{After, IsStep, after_none, after_next, past_next, after_all, fits_all, room_next, step_facts, powers_small, powers_next, all_steps}
+use Rattle.sp_ladder.proofs.Partial.{after_none, after_next, past_next, after_all, fits_all, room_next, step_facts, powers_small, powers_next, all_steps}
 use Rattle.sp_ladder_law.proofs.Weights.{degree_after}
 use Rattle.sp_ladder.proofs.Obeys.{obeys}
 use Rattle.sp_ladder.proofs.vector.ladder_vector.Goals as goal

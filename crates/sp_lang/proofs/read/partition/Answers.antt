@@ -1,8 +1,7 @@
-use Rattle.std.proofs.Common.{◌≡◌, ◌≤◌, ℕ, List, sym, ◌∙◌, ap, subst, arith, refl}
+use Rattle.std.proofs.Common.{◌≡◌, ◌≤◌, ℕ, List, sym, subst, arith, refl}
 use Rattle.sp_defs.specs.Partition.{degree}
-use Rattle.sp_defs.specs.Text.{partition_text}
 use Rattle.sp_partition.specs.Held.{IsHeld}
-use Rattle.sp_partition.specs.declared.TheConstants.{CAPACITY, DEGREE_LIMIT}
+use Rattle.sp_partition.specs.declared.TheConstants.{DEGREE_LIMIT}
 use Rattle.sp_lang.proofs.Named.{IsUpTo, partition_of-named, partition_of-none}
 use Rattle.sp_lang.proofs.read.partition.Goals as goal
 

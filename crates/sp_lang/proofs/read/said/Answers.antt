@@ -1,4 +1,4 @@
-use Rattle.std.proofs.Common.{◌≡◌, eqb, sym, ◌∙◌, ap}
+use Rattle.std.proofs.Common.{eqb, sym, ◌∙◌, ap}
 use Rattle.std.specs.Cmp.Lexicographic.{pointwise}
 use Rattle.sp_lang.proofs.Lines.{one_word, first_induce, first_ladders, first_ladder, first_other}
 use Rattle.sp_lang.proofs.read.said.Goals as goal

@@ -1,4 +1,4 @@
-use Rattle.std.proofs.Common.{◌≡◌, ◌++◌, sym, ◌∙◌, ap}
+use Rattle.std.proofs.Common.{◌++◌, ◌∙◌, ap}
 use Rattle.sp_defs.specs.Text.{vector_text}
 use Rattle.sp_session.proofs.Ladders.{on_ok}
 use Rattle.sp_session.proofs.Induced.{induced, never_too_large, powers_small}

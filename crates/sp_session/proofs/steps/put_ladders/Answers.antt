@@ -1,7 +1,6 @@
-use Rattle.std.proofs.Common.{◌≡◌, ◌++◌, ◌-◌, ◌≤◌, List, ℕ, sym, ◌∙◌, ap, subst, append_assoc, length, map, flat_map, take, drop, get_or}
+use Rattle.std.proofs.Common.{◌++◌, ◌-◌, sym, ◌∙◌, ap, append_assoc, length, flat_map, take, drop, get_or}
 use Rattle.sp_defs.specs.Ladder.{ladders}
 use Rattle.sp_ladder.specs.declared.step.Step.{Step}
-use Rattle.sp_session.specs.Reply.{dash_or_words, ladder_text}
 use Rattle.sp_session.specs.Steps.{step_text, later_step_text}
 use Rattle.sp_session.proofs.Ladders.{on_ok, text_of_steps, text_of_ladders}
 use Rattle.sp_session.proofs.steps.put_ladders.Goals as goal
