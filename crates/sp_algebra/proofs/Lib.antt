@@ -9,3 +9,6 @@ pub mod Sizes
 pub mod Places
 pub mod Reordered
 pub mod Steps
+pub mod Mirrored
+pub mod Values
+pub mod Lifted

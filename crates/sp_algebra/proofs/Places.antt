@@ -24,7 +24,7 @@ powers_ascend [] h i j d lt in_range = absurd (omega arith)
 powers_ascend ((k, c) ∷ p) (ne, (a, h)) zero zero d lt in_range = absurd (omega arith)
 powers_ascend ((k, c) ∷ p) (ne, (a, h)) (suc i) zero d lt in_range = absurd (omega arith)
 powers_ascend ((k, c) ∷ p) (ne, (a, h)) zero (suc j) d lt in_range = above_at k p a j d (omega arith)
-powers_ascend ((k, c) ∷ p) (ne, (a, h)) (suc i) (suc j) d lt in_range = 
+powers_ascend ((k, c) ∷ p) (ne, (a, h)) (suc i) (suc j) d lt in_range =
     powers_ascend p h i j d (omega arith) (omega arith)
 
 -- the coefficient at the power of a term is that of the term
@@ -69,8 +69,16 @@ searched p h j (Ok i) in_range equal = λ d.
     sym (ap (coefficient p) (ranked (get_or p i d).0 j Equal (equal d))) ∙ coefficient_at p h i d in_range
 searched p h j (Err i) in_range parted = coefficient_absent p j (pos 0, pos 0) (λ k lt e.
     elim (cases_lt k i) [
-      | inl before ↦ omega (arith, ints, ranked (get_or p k (pos 0, pos 0)).0 j Less
-          ((parted (comparisons_rise p h j)).0 k (pos 0, pos 0) (omega arith) before))
-      | inr after ↦ omega (arith, ints, ranked (get_or p k (pos 0, pos 0)).0 j Greater
-          ((parted (comparisons_rise p h j)).1 k (pos 0, pos 0) after lt))
+      | inl before ↦ omega (
+        arith,
+        ints,
+        ranked (get_or p k (pos 0, pos 0)).0 j Less
+            ((parted (comparisons_rise p h j)).0 k (pos 0, pos 0) (omega arith) before),
+      )
+      | inr after ↦ omega (
+        arith,
+        ints,
+        ranked (get_or p k (pos 0, pos 0)).0 j Greater
+            ((parted (comparisons_rise p h j)).1 k (pos 0, pos 0) after lt),
+      )
     ])

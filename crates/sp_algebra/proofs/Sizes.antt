@@ -1,11 +1,14 @@
 -- The size of a sum, a product and a monomial, and how far their powers lie from 0.
-use Rattle.std.proofs.Common.{◌≡◌, ℕ, zero, suc, ◌+◌, ◌*◌, ◌<◌, ◌≤◌, length, get_or, true, false, cond, [], ◌∷◌, ◌++◌}
-use Rattle.std.proofs.Common.{map, sym, ap, subst, arith, ℤ, pos, ◌+ℤ◌, ◌*ℤ◌, Less, Equal, Greater, int_cmp, int_eq}
+use Rattle.std.proofs.Common.{◌≡◌, refl, ℕ, zero, suc, ◌+◌, ◌*◌, ◌<◌, ◌≤◌, length, get_or, true, false, cond, [], ◌∷◌}
+use Rattle.std.proofs.Common.{◌++◌}
+use Rattle.std.proofs.Common.{map, sym, ap, subst, arith, ℤ, pos, neg_ℤ, ◌+ℤ◌, ◌*ℤ◌, Less, Equal, Greater, int_cmp}
+use Rattle.std.proofs.Common.{int_eq}
 use Rattle.std.proofs.lemmas.Int.{ints, unsigned_abs-mul}
 use Rattle.std.proofs.lemmas.List.Sums.{sum_by-append, sum_by-cons}
 use Rattle.std.specs.Int.RustNames.{unsigned_abs}
 use Rattle.std.specs.List.{AllByRecursion}
-use Rattle.sp_defs.specs.Laurent.{Laurent, Term, put, placed, add_term, collect, plus, products, times, monomial, size}
+use Rattle.sp_defs.specs.Laurent.{Laurent, Term, put, placed, add_term, collect, plus, products, times, negate, bar}
+use Rattle.sp_defs.specs.Laurent.{monomial, size}
 use Rattle.sp_defs.specs.Within.{PowersWithin, ProductWithin}
 use Rattle.sp_lists.proofs.Elements.{all_append}
 use Rattle.sp_algebra.proofs.Coefficients.{by_eq}
@@ -31,8 +34,8 @@ size_add_term : (k c : ℤ) (p : Laurent) → size (add_term k c p) ≤ unsigned
 unfolding add_term
 size_add_term k c [] = omega (arith, size-put k c [])
 size_add_term k c ((j, d) ∷ p) =
-    elim (int_cmp k j) as (λ o. size (placed o (k, c) (j, d) p (add_term k c p)) 
-        ≤ unsigned_abs c + size ((j, d) ∷ p)) [
+    elim (int_cmp k j) as (λ o. size (placed o (k, c) (j, d) p (add_term k c p))
+    ≤ unsigned_abs c + size ((j, d) ∷ p)) [
       | Less ↦ omega (arith, size-put k c ((j, d) ∷ p))
       | Equal ↦ omega (arith, ints, size-put k (c +ℤ d) p, size-cons j d p)
       | Greater ↦ omega (arith, size-cons j d (add_term k c p), size-cons j d p, size_add_term k c p)
@@ -179,3 +182,39 @@ within_monomial d k c h = powers_monomial (λ j. unsigned_abs j ≤ d) k c h
 pub within_more : (d e : ℕ) (p : Laurent) → d ≤ e → PowersWithin d p → PowersWithin e p
 within_more d e [] le all = tt
 within_more d e ((k, c) ∷ p) le (h, all) = (omega arith, within_more d e p le all)
+
+-- ---- the negative and the bar
+
+pub size-negated : (p : Laurent) → size (map (λ t. (t.0, neg_ℤ t.1)) p) ≡ size p
+size-negated [] = refl
+size-negated ((k, c) ∷ p) =
+    omega (arith, ints, size-cons k (neg_ℤ c) (map (λ t. (t.0, neg_ℤ t.1)) p), size-cons k c p, size-negated p)
+
+pub size_negate : (p : Laurent) → size (negate p) ≤ size p
+unfolding negate
+size_negate p = omega (arith, size_collect (map (λ t. (t.0, neg_ℤ t.1)) p), size-negated p)
+
+pub size-mirrored : (p : Laurent) → size (map (λ t. (neg_ℤ t.0, t.1)) p) ≡ size p
+size-mirrored [] = refl
+size-mirrored ((k, c) ∷ p) =
+    omega (arith, size-cons (neg_ℤ k) c (map (λ t. (neg_ℤ t.0, t.1)) p), size-cons k c p, size-mirrored p)
+
+pub size_bar : (p : Laurent) → size (bar p) ≤ size p
+unfolding bar
+size_bar p = omega (arith, size_collect (map (λ t. (neg_ℤ t.0, t.1)) p), size-mirrored p)
+
+pub within_negate : (d : ℕ) (p : Laurent) → PowersWithin d p → PowersWithin d (negate p)
+unfolding negate
+within_negate d p h = powers_collect (λ k. unsigned_abs k ≤ d) (map (λ t. (t.0, neg_ℤ t.1)) p) (same p h)
+  where
+    same : (p : Laurent) → PowersWithin d p → PowersWithin d (map (λ t. (t.0, neg_ℤ t.1)) p)
+    same [] h = tt
+    same ((k, c) ∷ p) (h, hs) = (h, same p hs)
+
+pub within-mirrored : (d : ℕ) (p : Laurent) → PowersWithin d p → PowersWithin d (map (λ t. (neg_ℤ t.0, t.1)) p)
+within-mirrored d [] h = tt
+within-mirrored d ((k, c) ∷ p) (h, hs) = (omega (arith, ints), within-mirrored d p hs)
+
+pub within_bar : (d : ℕ) (p : Laurent) → PowersWithin d p → PowersWithin d (bar p)
+unfolding bar
+within_bar d p h = powers_collect (λ k. unsigned_abs k ≤ d) (map (λ t. (neg_ℤ t.0, t.1)) p) (within-mirrored d p h)

@@ -25,7 +25,7 @@ collect-push ts k c = same_collection (ts ++ ((k, c) ∷ [])) ((k, c) ∷ ts) (�
 pub collect-part : (p q : Laurent) → collect (p ++ collect q) ≡ collect (p ++ q)
 collect-part p q = same_collection (p ++ collect q) (p ++ q) (λ j.
     coefficient-append p (collect q) j ∙ ap (λ x. coefficient p j +ℤ x) (coefficient-collect q j)
-        ∙ sym (coefficient-append p q j))
+    ∙ sym (coefficient-append p q j))
 
 -- a term goes past those of lower powers
 pub add_term-append : (k c : ℤ) (p q : Laurent) → AllByRecursion (λ t. t.0 <ℤ k) p
@@ -34,7 +34,7 @@ unfolding add_term
 add_term-append k c [] q low = refl
 add_term-append k c ((j, d) ∷ p) q (lt, low) =
     elim (int_cmp k j) as (λ o. MatchOrdering o (k <ℤ j) (k ≡ j) (j <ℤ k) → placed o (k, c) (j, d) (p ++ q)
-        (add_term k c (p ++ q)) ≡ (j, d) ∷ (p ++ add_term k c q)) [
+    (add_term k c (p ++ q)) ≡ (j, d) ∷ (p ++ add_term k c q)) [
       | Less ↦ λ h. absurd (omega (arith, ints))
       | Equal ↦ λ h. absurd (omega (arith, ints))
       | Greater ↦ λ h. ap (λ r. (j, d) ∷ r) (add_term-append k c p q low)
@@ -44,13 +44,10 @@ pub put-nonzero : (k c : ℤ) (p : Laurent) → c ≢ pos 0 → put k c p ≡ (k
 put-nonzero k c p ne = by_eq c (pos 0) (λ b. cond {A = Laurent} b p ((k, c) ∷ p) ≡ (k, c) ∷ p) (λ e. absurd (ne e))
     (λ _. refl)
 
-pub put-zero : (k c : ℤ) (p : Laurent) → c ≡ pos 0 → put k c p ≡ p
-put-zero k c p e = by_eq c (pos 0) (λ b. cond {A = Laurent} b p ((k, c) ∷ p) ≡ p) (λ _. refl) (λ ne. absurd (ne e))
-
 pub put-append : (k c : ℤ) (p : Laurent) → put k c p ≡ monomial k c ++ p
 put-append k c p =
     elim (int_eq c (pos 0)) as (λ b. cond {A = Laurent} b p ((k, c) ∷ p) ≡ cond {A = Laurent} b []
-        ((k, c) ∷ []) ++ p) [
+    ((k, c) ∷ []) ++ p) [
       | true ↦ refl
       | false ↦ refl
     ]
@@ -84,15 +81,15 @@ pub times-append : (p q r : Laurent) → times (p ++ q) r ≡ plus (times p r) (
 times-append p q r = same_laurent _ _ (IsLaurent-times (p ++ q) r) (IsLaurent-plus (times p r) (times q r))
     (λ j. coefficient-times (p ++ q) r j ∙ act-append p q (coefficient r) j
     ∙ ap₂ (λ x y. x +ℤ y) (sym (coefficient-times p r j)) (sym (coefficient-times q r j))
-        ∙ sym (coefficient-plus (times p r) (times q r) j))
+    ∙ sym (coefficient-plus (times p r) (times q r) j))
 
 at-swap : (k c l d j : ℤ) → d *ℤ at k c (j -ℤ l) ≡ c *ℤ at l d (j -ℤ k)
 at-swap k c l d j =
     by_eq k (j -ℤ l) (λ b. d *ℤ cond b c (pos 0) ≡ c *ℤ at l d (j -ℤ k))
     (λ e. let s : l ≡ j -ℤ k = omega (arith, ints) in subst (λ x. d *ℤ c ≡ c *ℤ at l d x) s (*ℤ_comm d c
-        ∙ ap (λ x. c *ℤ x) (sym (at-same l d))))
+    ∙ ap (λ x. c *ℤ x) (sym (at-same l d))))
     (λ ne. let s : l ≢ j -ℤ k = λ e. ne (omega (arith, ints)) in nothing d c
-        ∙ ap (λ x. c *ℤ x) (sym (at-other l d (j -ℤ k) s)))
+    ∙ ap (λ x. c *ℤ x) (sym (at-other l d (j -ℤ k) s)))
   where
     nothing : (x y : ℤ) → x *ℤ pos 0 ≡ y *ℤ pos 0
     nothing x y = omega (arith, ints)

@@ -1,6 +1,23 @@
 -- What a search by halves finds in a vector, where partitions are ordered by degree first.
 use Rattle.std.proofs.Common.{
-    ◌≡◌, ◌≢◌, ℕ, ◌<◌, ◌≤◌, List, [], length, get_or, Result, Ok, Err, Less, sym, ◌∙◌, ap, subst, arith,
+  ◌≡◌,
+  ◌≢◌,
+  ℕ,
+  ◌<◌,
+  ◌≤◌,
+  List,
+  [],
+  length,
+  get_or,
+  Result,
+  Ok,
+  Err,
+  Less,
+  sym,
+  ◌∙◌,
+  ap,
+  subst,
+  arith,
 }
 use Rattle.std.specs.List.Sorted.{IsSearchInRange, IsBinarySearchResult}
 use Rattle.std.specs.Result.{MatchResult}

@@ -13,6 +13,7 @@ pub enum FockFault {
     /// A size passes the limit.
     #[error("vector too large")]
     TooLarge,
+    /// Memory ran out.
     #[error("out of memory")]
     Memory,
 }

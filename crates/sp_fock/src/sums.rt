@@ -1,5 +1,5 @@
 // Sums of ascending lists of pairs.
-ghost use Rattle.std.specs.Prelude.{◌≡◌, ◌≢◌, ◌^◌, ◌<◌, ◌≤◌, IfOk, IsErrOf};
+ghost use Rattle.std.specs.Prelude.{◌≡◌, ◌^◌, ◌<◌, ◌≤◌, IfOk, IsErrOf};
 ghost use Rattle.std.specs.List.{AllByRecursion};
 ghost use Rattle.sp_fock_law.specs.Joined.{combined, joined};
 ghost use Rattle.sp_fock.specs.Held.{ArePairs};

@@ -1,5 +1,6 @@
 // A vector is kept as the ascending list of its partitions and polynomials.
-ghost use Rattle.std.specs.Prelude.{◌≡◌, ◌^◌, ◌<◌, ◌≤◌, ◌↔◌, [], reverse, IsErrOf, IsTrue, IsNone, IfSome, IfOk, OnOk, OnErr};
+ghost use Rattle.std.specs.Prelude.{◌≡◌, ◌^◌, ◌<◌, ◌≤◌, ◌↔◌, [], reverse};
+ghost use Rattle.std.specs.Prelude.{IsErrOf, IsTrue, IsNone, IfSome, IfOk, OnOk, OnErr};
 ghost use Rattle.std.specs.List.{AllByRecursion};
 ghost use Rattle.sp_defs.specs.Partition.{degree as degree_of};
 ghost use Rattle.sp_defs.specs.Power.{fock_vector, unit, vector_of};
@@ -98,7 +99,7 @@ impl Vector {
         Terms { pairs: &self.pairs }
     }
 
-    /// A copy.
+    /// The same vector in memory of its own.
     pub fn copy(&self, alloc: Global) -> Result<Vector, AllocError>
         ensures { IfOk result (λ copy. copy ≡ self.now) }
     {
@@ -114,8 +115,8 @@ impl Vector {
 
     /// Adds `a` times `w`.
     ///
-    /// `TooLarge` exactly where, at some partition, the size here and the product of the sizes of `a` and there pass
-    /// the limit together. After a refusal the vector is as before.
+    /// It is refused as too large where, at some partition, the size here and the product of the sizes of `a` and of
+    /// what `w` has there sum up to more than the limit. After a refusal the vector is as before.
     pub fn add_scaled(
         &mut self,
         alloc: Global,
@@ -138,6 +139,7 @@ impl Vector {
         Ok(())
     }
 
+    // Whether no size at a partition passes the limit.
     fn sum_fits(&self, a: &Laurent, w: &Vector, limit: u128) -> bool
         requires { self.now.degree ≡ w.now.degree }
         ensures { IsTrue result ↔ (scaled_sum_weight self.now a.now w.now ≤ limit) }

@@ -75,13 +75,23 @@ vector_of-later mu [] h = refl
 vector_of-later mu ((kappa, p) ∷ es) (h, hs) =
     vector_of-other kappa mu p es (ap is_eq (later_than mu kappa h)) ∙ vector_of-later mu es hs
 
+-- what holds of each entry's polynomial, and of 0, holds at each partition
+pub vector_of-all : (P : Laurent → Type 0) → P [] → (es : Entries) → AllByRecursion (λ t. P t.1) es → (lambda : List ℕ)
+    → P (vector_of es lambda)
+unfolding vector_of
+vector_of-all P nought [] h lambda = nought
+vector_of-all P nought ((kappa, p) ∷ es) (h, hs) lambda =
+    elim (is_eq (compare kappa lambda)) as (λ b. P (cond b p (vector_of es lambda))) [
+      | true ↦ h
+      | false ↦ vector_of-all P nought es hs lambda
+    ]
+
 pub IsLaurent-vector_of : (es : Entries) → AllByRecursion (λ t. IsLaurent t.1 × (t.1 ≢ [])) es → (lambda : List ℕ)
     → IsLaurent (vector_of es lambda)
-unfolding vector_of collect
-IsLaurent-vector_of [] h lambda = refl
-IsLaurent-vector_of ((kappa, p) ∷ es) (h, hs) lambda =
-    elim (is_eq (compare kappa lambda)) as
-    (λ b. IsLaurent (cond b p (vector_of es lambda))) [ true ↦ h.0 | false ↦ IsLaurent-vector_of es hs lambda ]
+unfolding collect
+IsLaurent-vector_of es h lambda =
+    vector_of-all IsLaurent refl es
+    (all_mono (λ t. IsLaurent t.1 × (t.1 ≢ [])) (λ t. IsLaurent t.1) es (λ t k. k.0) h) lambda
 
 -- ---- extensionality
 

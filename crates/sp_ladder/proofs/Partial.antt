@@ -7,7 +7,7 @@ use Rattle.std.proofs.lemmas.List.{take_all}
 use Rattle.sp_defs.specs.Partition.{degree, IsPartition, IsPartitionOf, compare}
 use Rattle.sp_defs.specs.Laurent.{Laurent, one, plus, collect, add_term, sum_over}
 use Rattle.sp_defs.specs.Within.{PowersWithin}
-use Rattle.sp_defs.specs.Power.{Vector, vector_of, entries, unit, divided_power, induction_weight, FockVector, fock_vector}
+use Rattle.sp_defs.specs.Power.{Vector, Entries, vector_of, entries, unit, divided_power, induction_weight, FockVector, fock_vector}
 use Rattle.sp_defs.specs.Ladder.{Step, steps, ladders, ladder_residue, on_ladder, partial_ladder_vector, ladder_vector, ladder_weight, chain_sum}
 use Rattle.sp_defs.specs.Ladder.{chains_to, chain_exponent}
 use Rattle.sp_defs.specs.Statements.{IsLabel}
@@ -17,6 +17,9 @@ use Rattle.sp_power_law.proofs.Sources.{divided_power-alike, induction_weight-al
 use Rattle.sp_ladder_law.proofs.Weights.{WithinUpTo, degree_after, nodes_added, degree_after_all, nodes_added-more, partial_step}
 use Rattle.sp_ladder_law.proofs.Weights.{partial_whole, within_first, within_next, weight_within, weight_past, step_weight}
 use Rattle.sp_ladder.specs.Steps.{step_on}
+use Rattle.sp_ladder.specs.declared.step.Step.{Step as CodeStep}
+use Rattle.sp_shapes.proofs.Order.{all_mono}
+use Rattle.std.proofs.Math.Nat.{mul-le-mul_left}
 
 -- The step for a ladder.
 abbrev pub step_at : ℕ → List ℕ → ℕ → Step
@@ -43,7 +46,7 @@ unfolding steps
 length-steps e mu = length-map (step_at e mu) (ladders e mu)
 
 -- The code's step t has the residue and the count of the definition's.
-pub same_step : (e : ℕ) (mu : List ℕ) (t : ℕ) (d : _) → t < length (ladders e mu) →
+pub same_step : (e : ℕ) (mu : List ℕ) (t : ℕ) (d : CodeStep) → t < length (ladders e mu) →
     ((get_or (map (step_on e mu) (ladders e mu)) t d).residue ≡ (nth_step e mu t).residue)
     × ((get_or (map (step_on e mu) (ladders e mu)) t d).count ≡ (nth_step e mu t).count)
 unfolding steps
@@ -182,3 +185,60 @@ room_next limit e mu t m n v label lt so_far mi ni =
     let whole : nodes_added (steps e mu) ≡ degree mu =
         ap nodes_added (sym (take_all (length (steps e mu)) (steps e mu) (omega arith))) ∙ degree_after_all e mu label in
     omega (arith, before, after, part, whole, mi)
+
+-- ---- what the code needs for a step
+
+-- What is known of the code's step t.
+pub record IsStep (e : ℕ) (mu : List ℕ) (t : ℕ) (step : CodeStep) : Type 0 where
+  pub early : t < length (steps e mu)
+  pub residue : step.residue ≡ (nth_step e mu t).residue
+  pub count : step.count ≡ (nth_step e mu t).count
+  pub below : step.residue < e
+
+pub step_facts : (e : ℕ) (mu : List ℕ) (items : List CodeStep) (t : ℕ) (d : CodeStep) → 2 ≤ e → items ≡ map (step_on e mu) (ladders e mu) →
+    t < length items → IsStep e mu t (get_or items t d)
+step_facts e mu items t d he is lt = record {
+  early = subst (λ n. t < n) (sym (length-steps e mu)) early;
+  residue = ap (λ s. s.residue) here ∙ same.0;
+  count = ap (λ s. s.count) here ∙ same.1;
+  below = subst (λ n. n < e) (sym (ap (λ s. s.residue) (here ∙ get-map (step_on e mu) (ladders e mu) t 0 d early))) small;
+}
+  where
+    early : t < length (ladders e mu)
+    early = subst (λ n. t < n) (ap length is ∙ length-map (step_on e mu) (ladders e mu)) lt
+
+    here : get_or items t d ≡ get_or (map (step_on e mu) (ladders e mu)) t d
+    here = ap (λ xs. get_or xs t d) is
+
+    same : ((get_or (map (step_on e mu) (ladders e mu)) t d).residue ≡ (nth_step e mu t).residue)
+        × ((get_or (map (step_on e mu) (ladders e mu)) t d).count ≡ (nth_step e mu t).count)
+    same = same_step e mu t d early
+
+    small : ladder_residue e (get_or (ladders e mu) t 0) < e
+    small = omega arith
+
+pub powers_weaken : (a b : ℕ) (es : Entries) → a ≤ b → AllByRecursion (λ s. PowersWithin a s.1) es → AllByRecursion (λ s. PowersWithin b s.1) es
+powers_weaken a b es le h = all_mono (λ s. PowersWithin a s.1) (λ s. PowersWithin b s.1) es (λ s. within_weaken s.1) h
+  where
+    within_weaken : (p : Laurent) → PowersWithin a p → PowersWithin b p
+    within_weaken p k = all_mono (λ t. unsigned_abs t.0 ≤ a) (λ t. unsigned_abs t.0 ≤ b) p (λ t j. omega arith) k
+
+-- The powers so far are small.
+pub powers_small : (limit e : ℕ) (mu : List ℕ) (t : ℕ) (v : FockVector) → IsLabel e mu → degree mu ≤ 32 → After limit e mu t v →
+    AllByRecursion (λ s. PowersWithin 500000000 s.1) v.entries
+powers_small limit e mu t v label small so_far =
+    let part : nodes_added (take t (steps e mu)) ≤ nodes_added (steps e mu) = sum_by-take-le (λ s. s.count) (steps e mu) t in
+    let whole : nodes_added (steps e mu) ≡ degree mu =
+        ap nodes_added (sym (take_all (length (steps e mu)) (steps e mu) (omega arith))) ∙ degree_after_all e mu label in
+    powers_weaken (33 * degree_after e mu t) 500000000 v.entries (omega (arith, part, whole, small)) so_far.powers
+
+-- What an induction adds to the powers.
+pub powers_next : (m n far : ℕ) (es : Entries) → n ≤ 32 → AllByRecursion (λ s. PowersWithin (m * (n + 1) + far) s.1) es →
+    AllByRecursion (λ s. PowersWithin (far + 33 * m) s.1) es
+powers_next m n far es small h =
+    let n_less : n + 1 ≤ 33 = omega arith in
+    let product : m * (n + 1) ≤ m * 33 = mul-le-mul_left m n_less in
+    powers_weaken (m * (n + 1) + far) (far + 33 * m) es (omega (arith, product)) h
+
+pub all_steps : (e : ℕ) (mu : List ℕ) (items : List CodeStep) → items ≡ map (step_on e mu) (ladders e mu) → length items ≡ length (steps e mu)
+all_steps e mu items is = ap length is ∙ length-map (step_on e mu) (ladders e mu) ∙ sym (length-steps e mu)

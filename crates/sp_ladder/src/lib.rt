@@ -1,8 +1,10 @@
-//! Ladders of a partition.
+//! Ladders of a partition, and the ladder vector.
 #![tactic(auto)]
 
 mod counting;
 mod step;
+mod vector;
 
 pub use counting::ladders;
 pub use step::Step;
+pub use vector::ladder_vector;

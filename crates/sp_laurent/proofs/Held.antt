@@ -1,17 +1,15 @@
 -- Which lists of terms the code may hold.
-use Rattle.std.proofs.Common.{◌≡◌, ◌≢◌, ◌+◌, ◌*◌, ◌⊎◌, inl, inr, ◌∙◌, ap, cond, ◌^◌, ◌<◌, ◌≤◌, [], ◌∷◌, refl, sym}
-use Rattle.std.proofs.Common.{subst, arith, ℤ, pos}
+use Rattle.std.proofs.Common.{◌≡◌, ◌+◌, ◌*◌, ◌⊎◌, inl, inr, ◌∙◌, ap, ◌^◌, ◌<◌, ◌≤◌, [], ◌∷◌, refl, sym}
+use Rattle.std.proofs.Common.{arith, ℤ}
 use Rattle.std.specs.Int.RustNames.{unsigned_abs}
-use Rattle.sp_defs.specs.Laurent.{Laurent, Term, IsLaurent, add_term, collect, monomial, plus, times, size}
-use Rattle.sp_algebra.proofs.Coefficients.{by_eq, IsLaurent-collect}
+use Rattle.sp_defs.specs.Laurent.{Laurent, IsLaurent, add_term, collect, monomial, plus, times, negate, bar, size}
+use Rattle.sp_algebra.proofs.Coefficients.{IsLaurent-collect}
 use Rattle.sp_defs.specs.Within.{ProductWithin}
-use Rattle.sp_algebra.proofs.Laws.{IsLaurent-plus, plus_nought, nought_times, times_nought}
+use Rattle.sp_algebra.proofs.Laws.{IsLaurent-plus, IsLaurent-negate, IsLaurent-bar, plus_nought, nought_times}
+use Rattle.sp_algebra.proofs.Laws.{times_nought}
+use Rattle.sp_algebra.proofs.Sizes.{size_negate, size_bar, within_negate, within_bar}
 use Rattle.sp_algebra.proofs.Sizes.{size-monomial, within_monomial, size_plus, size_times, within_plus, within_times}
 use Rattle.sp_laurent.specs.Held.{IsHeld, power_limit}
-
--- equal terms
-abbrev pub Same : Term → Term → Type 0
-Same s t = s ≡ t
 
 pub held_nought : IsHeld []
 unfolding collect
@@ -28,15 +26,6 @@ held_monomial k c small within = record {
   powers = within_monomial power_limit k c within;
 }
 
-pub one_term : (k c : ℤ) → c ≢ pos 0 → monomial k c ≡ (k, c) ∷ []
-one_term k c ne =
-    let term : Term = (k, c) in
-    by_eq c (pos 0) (λ b. cond b [] (term ∷ []) ≡ term ∷ []) (λ e. absurd (ne e)) (λ _. refl)
-
--- a single term
-pub held_term : (k c : ℤ) → c ≢ pos 0 → unsigned_abs c < 2 ^ 127 → unsigned_abs k ≤ power_limit → IsHeld ((k, c) ∷ [])
-held_term k c ne small within = subst IsHeld (one_term k c ne) (held_monomial k c small within)
-
 pub held_sum : (p a b : Laurent) → IsHeld p → size p + size a * size b < 2 ^ 127 → ProductWithin power_limit a b
     → IsHeld (plus p (times a b))
 held_sum p a b held small within = record {
@@ -49,3 +38,17 @@ held_sum p a b held small within = record {
 pub add_none : (p a b : Laurent) → IsLaurent p → (a ≡ []) ⊎ (b ≡ []) → p ≡ plus p (times a b)
 add_none p a b h (inl e) = sym (ap (plus p) (ap (λ q. times q b) e ∙ nought_times b) ∙ plus_nought p h)
 add_none p a b h (inr e) = sym (ap (plus p) (ap (times a) e ∙ times_nought a) ∙ plus_nought p h)
+
+pub held_negate : (p : Laurent) → IsHeld p → IsHeld (negate p)
+held_negate p held = record {
+  laurent = IsLaurent-negate p;
+  small = omega (arith, size_negate p, held.small);
+  powers = within_negate power_limit p held.powers;
+}
+
+pub held_bar : (p : Laurent) → IsHeld p → IsHeld (bar p)
+held_bar p held = record {
+  laurent = IsLaurent-bar p;
+  small = omega (arith, size_bar p, held.small);
+  powers = within_bar power_limit p held.powers;
+}

@@ -4,3 +4,5 @@ pub mod Merging
 pub mod Multiple
 pub mod Product
 pub mod Texts
+pub mod Mirroring
+pub mod Lower

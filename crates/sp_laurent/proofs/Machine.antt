@@ -1,6 +1,7 @@
 -- Sums and products of signed numbers in their machine form.
-use Rattle.std.proofs.Common.{◌≡◌, ◌<◌, ◌^◌, sym, ◌∙◌, ap₂, subst, ℤ, ◌+ℤ◌, ◌*ℤ◌, to_z, of_z, SFits, to_z-of_z}
-use Rattle.std.proofs.lemmas.Int.{fits_signed_from_abs}
+use Rattle.std.proofs.Common.{◌≡◌, ◌<◌, ◌^◌, sym, ◌∙◌, ap, ap₂, subst, arith, ℤ, pos, neg_ℤ, ◌+ℤ◌, ◌-ℤ◌, ◌*ℤ◌, to_z}
+use Rattle.std.proofs.Common.{of_z, SFits, to_z-of_z}
+use Rattle.std.proofs.lemmas.Int.{ints, fits_signed_from_abs}
 use Rattle.std.specs.Int.RustNames.{unsigned_abs}
 use mir.Syntax.{Width, w128}
 
@@ -19,3 +20,17 @@ module _ (w : Width) (a b : ℤ) (a_fits : SFits w a) (b_fits : SFits w b) where
 
   pub mul_back : SFits w (a *ℤ b) → to_z w (of_z w (to_z w (of_z w a) *ℤ to_z w (of_z w b))) ≡ a *ℤ b
   mul_back fits = to_z-of_z (mul_fits fits) ∙ ap₂ (λ x y. x *ℤ y) (to_z-of_z a_fits) (to_z-of_z b_fits)
+
+-- the negative of a number, where it has the number's type
+negative : (w : Width) (a : ℤ) → SFits w a → pos 0 -ℤ to_z w (of_z w a) ≡ neg_ℤ a
+negative w a fits = ap (λ x. pos 0 -ℤ x) (to_z-of_z fits) ∙ zero_less a
+  where
+    zero_less : (a : ℤ) → pos 0 -ℤ a ≡ neg_ℤ a
+    zero_less a = omega (arith, ints)
+
+pub neg_fits : (w : Width) (a : ℤ) → SFits w a → SFits w (neg_ℤ a) → SFits w (pos 0 -ℤ to_z w (of_z w a))
+neg_fits w a fits negative_fits = subst (λ x. SFits w x) (sym (negative w a fits)) negative_fits
+
+pub neg_back : (w : Width) (a : ℤ) → SFits w a → SFits w (neg_ℤ a)
+    → to_z w (of_z w (pos 0 -ℤ to_z w (of_z w a))) ≡ neg_ℤ a
+neg_back w a fits negative_fits = to_z-of_z (neg_fits w a fits negative_fits) ∙ negative w a fits

@@ -2,18 +2,21 @@
 #![tactic(auto)]
 
 ghost use Rattle.std.specs.Prelude.{◌≡◌, ℕ, ◌+◌, ◌*◌, ◌^◌, ◌<◌, ◌≤◌, ◌↔◌, unsigned_abs, IfOk, OnOk, OnErr, IsErrOf};
-ghost use Rattle.std.specs.Prelude.{IsTrue, [], ◌++◌};
-ghost use Rattle.sp_defs.specs.Laurent.{coefficient, size, monomial, plus, times};
+ghost use Rattle.std.specs.Prelude.{IsTrue, [], ◌++◌, pos, neg_ℤ, map, reverse};
+ghost use Rattle.sp_defs.specs.Laurent.{IsPositive, coefficient, size, monomial, plus, times, negate, bar, lift};
+ghost use Rattle.sp_defs.specs.Laurent.{value_at_one};
 ghost use Rattle.sp_defs.specs.Text.{polynomial_text};
 ghost use Rattle.sp_defs.specs.Within.{PowersWithin, ProductWithin};
 ghost use Rattle.sp_laurent.specs.Held.{IsHeld, power_limit};
 
-use crate::sums::{is_within, push_term, with_product};
+use crate::mirror::{lifted, negated, push_mirrored};
+use crate::sums::{is_within, push_term, size_of, split_below, split_first, with_product};
 use crate::text::print_terms;
 use std::alloc::{AllocError, Global};
 use std::marker::Model;
 
 mod fault;
+mod mirror;
 mod sums;
 mod text;
 
@@ -94,7 +97,7 @@ impl Laurent {
         ensures value { result ≡ size self.now }
         ensures held { IsHeld self.now }
     {
-        self.terms.iter().map(|term| term.1.unsigned_abs()).sum()
+        size_of(&self.terms)
     }
 
     /// The same polynomial in memory of its own.
@@ -103,6 +106,76 @@ impl Laurent {
     {
         Ok(Laurent {
             terms: Vec::from_slice(alloc, &self.terms)?,
+        })
+    }
+
+    /// The polynomial with its coefficients negated.
+    pub fn negate(&self, alloc: Global) -> Result<Laurent, AllocError>
+        ensures { IfOk result (λ p. p ≡ negate self.now) }
+    {
+        Ok(Laurent {
+            terms: negated(alloc, &self.terms)?,
+        })
+    }
+
+    /// The polynomial with v and its inverse exchanged.
+    pub fn bar(&self, alloc: Global) -> Result<Laurent, AllocError>
+        ensures { IfOk result (λ p. p ≡ bar self.now) }
+    {
+        let mut terms = Vec::new(alloc);
+        push_mirrored(&mut terms, &self.terms)?;
+        Ok(Laurent { terms })
+    }
+
+    /// Whether only positive powers occur.
+    pub fn in_vzv(&self) -> bool
+        ensures { IsTrue result ↔ IsPositive self.now }
+    {
+        match self.terms.first() {
+            Some(first) => first.0 > 0,
+            None => true,
+        }
+    }
+
+    /// The value at v = 1.
+    pub fn at_one(&self) -> i128
+        ensures { result ≡ value_at_one self.now }
+    {
+        let mut sum = 0;
+        for term in &self.terms {
+            sum += term.1;
+        }
+        sum
+    }
+
+    // The terms of negative powers, and the coefficient at the power 0: they decide the lift.
+    fn lower_half(&self) -> (&[Term], i128)
+        ensures lift { lift self.now ≡ (result.0.now ++ monomial (pos 0) result.1) ++ reverse (
+            map (λ t. (neg_ℤ t.0, t.1)) result.0.now) }
+        ensures sizes { size (lift self.now) ≡ 2 * size result.0.now + unsigned_abs result.1 }
+        ensures small { size result.0.now + unsigned_abs result.1 < 2 ^ 127 }
+        ensures within { PowersWithin power_limit result.0.now }
+        ensures held { size (lift self.now) < 2 ^ 127 → IsHeld (lift self.now) }
+    {
+        let (below, others) = split_below(&self.terms, 0);
+        let (constant, _) = split_first(others, 0);
+        (below, constant)
+    }
+
+    /// The only polynomial that is the same with v and its inverse exchanged, and has the coefficients of this one at
+    /// the powers up to 0. It is refused as too large where its size passes the limit.
+    pub fn lift(&self, alloc: Global, limit: u128) -> Result<Laurent, LaurentFault>
+        requires least { 1 ≤ limit }
+        requires most { limit < 2 ^ 127 }
+        ensures ok { IfOk result (λ p. p ≡ lift self.now) }
+        ensures too_large { IsErrOf result LaurentFault.TooLarge ↔ (limit < size (lift self.now)) }
+    {
+        let (below, constant) = self.lower_half();
+        if 2 * size_of(below) + constant.unsigned_abs() > limit {
+            return Err(LaurentFault::TooLarge);
+        }
+        Ok(Laurent {
+            terms: lifted(alloc, below, constant)?,
         })
     }
 

@@ -9,6 +9,14 @@ ghost use Rattle.sp_laurent.specs.Held.{power_limit};
 use crate::Term;
 use std::alloc::{AllocError, Global};
 
+/// The sum of the absolute values of the coefficients.
+pub(crate) fn size_of(terms: &[Term]) -> u128
+    requires { size terms.now < 2 ^ 127 }
+    ensures { result ≡ size terms.now }
+{
+    terms.iter().map(|term| term.1.unsigned_abs()).sum()
+}
+
 /// Whether a sum of sizes and a product of sizes stay within a limit.
 pub(crate) fn is_within(limit: u128, size: u128, a: u128, b: u128) -> bool
     ensures { IsTrue result ↔ (size + a * b ≤ limit) }
@@ -36,8 +44,8 @@ pub(crate) fn push_term(
     Ok(())
 }
 
-// The terms below a power, and the others.
-fn split_below(terms: &[Term], power: i32) -> (&[Term], &[Term])
+/// The terms below a power, and the others.
+pub(crate) fn split_below(terms: &[Term], power: i32) -> (&[Term], &[Term])
     requires { IsLaurent terms.now }
     ensures joined { result.0.now ++ result.1.now ≡ terms.now }
     ensures below { AllByRecursion (λ t. t.0 <ℤ power) result.0.now }
@@ -46,8 +54,8 @@ fn split_below(terms: &[Term], power: i32) -> (&[Term], &[Term])
     terms.split_at(terms.partition_point(|term| term.0 < power))
 }
 
-// The coefficient at a power that no term is below, and the terms above that power.
-fn split_first(terms: &[Term], power: i32) -> (i128, &[Term])
+/// The coefficient at a power that no term is below, and the terms above that power.
+pub(crate) fn split_first(terms: &[Term], power: i32) -> (i128, &[Term])
     requires laurent { IsLaurent terms.now }
     requires above { AllByRecursion (λ t. power ≤ℤ t.0) terms.now }
     ensures joined { monomial power result.0 ++ result.1.now ≡ terms.now }

@@ -1,10 +1,9 @@
 //! Worked values.
 use super::*;
-use crate::text::print_terms;
 use std::test::Fail;
 
 #[test]
-fn adds_and_prints(rt: HostRuntime) -> Result<(), Fail> {
+fn adds(rt: HostRuntime) -> Result<(), Fail> {
     let alloc = rt.alloc();
     let v = Laurent::monomial(alloc, 1, 1)?;
     let mut sum = Laurent::monomial(alloc, 1, 0)?;
@@ -18,11 +17,43 @@ fn adds_and_prints(rt: HostRuntime) -> Result<(), Fail> {
     assert_eq!(rt; sum.coefficient(2), 1);
     assert_eq!(rt; sum.coefficient(1), 0);
     assert_eq!(rt; sum.size(), 2);
-    assert_eq!(rt; Laurent::zero(alloc).size(), 0);
-    let copy = sum.copy(alloc)?;
     let mut text = Vec::from_slice(alloc, b"= ")?;
-    copy.print(alloc, &mut text)?;
+    sum.print(alloc, &mut text)?;
     assert_eq!(rt; text.as_slice(), b"= 1+v^2".as_slice());
+    assert_eq!(rt; Laurent::zero(alloc).terms().len(), 0);
+    Ok(())
+}
+
+#[test]
+fn turns_and_lifts(rt: HostRuntime) -> Result<(), Fail> {
+    let alloc = rt.alloc();
+    let one = Laurent::monomial(alloc, 1, 0)?;
+    let mut p = Laurent::monomial(alloc, 1, 0)?;
+    assert_eq!(rt;
+        p.add_scaled(alloc, &Laurent::monomial(alloc, 2, 1)?, &one, 3),
+        Ok(())
+    );
+    assert_eq!(rt; p.copy(alloc)?.terms(), [(0, 1), (1, 2)].as_slice());
+    assert_eq!(rt; p.negate(alloc)?.terms(), [(0, -1), (1, -2)].as_slice());
+    assert_eq!(rt; p.bar(alloc)?.terms(), [(-1, 2), (0, 1)].as_slice());
+    assert_eq!(rt; p.at_one(), 3);
+    assert!(rt; !p.in_vzv());
+
+    let mut q = Laurent::monomial(alloc, 1, 2)?;
+    assert!(rt; q.in_vzv());
+    assert_eq!(rt;
+        q.add_scaled(alloc, &one, &Laurent::monomial(alloc, 1, -1)?, 9),
+        Ok(())
+    );
+    assert_eq!(rt;
+        q.add_scaled(alloc, &Laurent::monomial(alloc, 2, 0)?, &one, 9),
+        Ok(())
+    );
+    assert!(rt; matches!(q.lift(alloc, 3), Err(LaurentFault::TooLarge)));
+    match q.lift(alloc, 4) {
+        Ok(lift) => assert_eq!(rt; lift.terms(), [(-1, 1), (0, 2), (1, 1)].as_slice()),
+        Err(_) => assert!(rt; false),
+    }
     Ok(())
 }
 

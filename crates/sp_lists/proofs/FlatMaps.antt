@@ -1,6 +1,6 @@
 -- Two filters as a `flat_map`, and a `flat_map` over one number more.
-use Rattle.std.proofs.Common.{◌≡◌, ℕ, ◌+◌, suc, zero, Bool, true, false, cond, List, [], ◌∷◌, ◌++◌, map, filter, flat_map}
-use Rattle.std.proofs.Common.{refl, sym, ◌∙◌, ap, ap₂, arith, add-one, append-nil}
+use Rattle.std.proofs.Common.{◌≡◌, ℕ, ◌+◌, suc, zero, Bool, true, false, cond, List, [], ◌∷◌, ◌++◌, map, filter}
+use Rattle.std.proofs.Common.{flat_map, refl, sym, ◌∙◌, ap, arith, add-one, append-nil}
 use Rattle.std.specs.List.{range_with_len}
 use Rattle.std.proofs.lemmas.List.Concat.{flat_map-append, flat_map-cons}
 
@@ -16,10 +16,11 @@ filter_twice-map s t f (x ∷ xs) =
     first : {Y : Type 0} (s : Y → Bool) (b : Bool) (y : Y) (ys : List Y) →
         filter s (cond b (y ∷ ys) ys) ≡ filter s (cond b (y ∷ []) []) ++ filter s ys
     first s false y ys = refl
-    first s true y ys = elim (s y) as (λ b. cond b (y ∷ filter s ys) (filter s ys) ≡ cond b (y ∷ []) [] ++ filter s ys) [
-      | true ↦ refl
-      | false ↦ refl
-    ]
+    first s true y ys = before (s y)
+      where
+        before : (b : Bool) → cond b (y ∷ filter s ys) (filter s ys) ≡ cond b (y ∷ []) [] ++ filter s ys
+        before true = refl
+        before false = refl
 
 pub range-more : (a n : ℕ) → range_with_len a (n + 1) ≡ range_with_len a n ++ (a + n) ∷ []
 range-more a n = ap (range_with_len a) (add-one n) ∙ at_suc a n

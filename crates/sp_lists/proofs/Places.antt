@@ -19,17 +19,21 @@ pub all_take : {X : Type 0} (P : X → Type 0) (xs : List X) (n : ℕ)
 all_take P [] zero f = tt
 all_take P [] (suc n) f = tt
 all_take P (x ∷ xs) zero f = tt
-all_take P (x ∷ xs) (suc n) f =
-    (f zero x (omega arith) (omega arith), all_take P xs n
-        (λ i d lt in_range. f (suc i) d (omega arith) (omega arith)))
+all_take P (x ∷ xs) (suc n) f = (
+  f zero x (omega arith) (omega arith),
+  all_take P xs n
+      (λ i d lt in_range. f (suc i) d (omega arith) (omega arith)),
+)
 
 pub all_drop : {X : Type 0} (P : X → Type 0) (xs : List X) (n : ℕ)
     → ((i : ℕ) (d : X) → n ≤ i → i < length xs → P (get_or xs i d)) → AllByRecursion P (drop n xs)
 all_drop P [] zero f = tt
 all_drop P [] (suc n) f = tt
-all_drop P (x ∷ xs) zero f =
-    (f zero x (omega arith) (omega arith), all_drop P xs zero
-        (λ i d le in_range. f (suc i) d (omega arith) (omega arith)))
+all_drop P (x ∷ xs) zero f = (
+  f zero x (omega arith) (omega arith),
+  all_drop P xs zero
+      (λ i d le in_range. f (suc i) d (omega arith) (omega arith)),
+)
 all_drop P (x ∷ xs) (suc n) f = all_drop P xs n (λ i d le in_range. f (suc i) d (omega arith) (omega arith))
 
 -- a list without its first element, as a pattern takes it

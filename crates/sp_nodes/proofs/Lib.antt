@@ -3,3 +3,4 @@ pub mod RowMarks
 pub mod Hooks
 pub mod NodeLists
 pub mod Tallies
+pub mod Lines

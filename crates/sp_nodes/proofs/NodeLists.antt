@@ -1,12 +1,12 @@
 -- The list of the nodes, filled node by node and row by row.
-use Rattle.std.proofs.Common.{◌≡◌, ℕ, ◌+◌, ◌-◌, ◌<◌, ◌≤◌, List, [], ◌∷◌, ◌++◌, map, flat_map, take, length, sum}
-use Rattle.std.proofs.Common.{sym, ◌∙◌, ap, ap₂, subst, arith, append_assoc, length-append}
+use Rattle.std.proofs.Common.{◌≡◌, ℕ, ◌+◌, ◌-◌, ◌≤◌, List, [], ◌∷◌, ◌++◌, map, flat_map, take, length, sum, sym, ◌∙◌}
+use Rattle.std.proofs.Common.{ap, ap₂, arith, append_assoc, length-append}
 use Rattle.std.specs.List.{All, range_with_len}
 use Rattle.std.proofs.lemmas.List.{map-append, append-nil}
 use Rattle.std.proofs.lemmas.List.Elements.{All-push}
 use Rattle.std.proofs.lemmas.List.FromFn.{map-range_with_len_more}
 use Rattle.std.proofs.lemmas.List.Sums.{sum_by_more, sum_by_more_le}
-use Rattle.sp_defs.specs.Partition.{part, from_one_to}
+use Rattle.sp_defs.specs.Partition.{part}
 use Rattle.sp_defs.specs.Node.{nodes}
 use Rattle.sp_lists.proofs.FlatMaps.{flat_map-range_more}
 use Rattle.sp_shapes.proofs.CornerRows.{nodes-rows}
@@ -27,11 +27,12 @@ pushed_none old row = record { nodes = sym (append-nil (map pair old)); len = om
 pub pushed_more : (old found more : List Node) (row column : ℕ) → IsPlace (record { row = row; column = column }) →
     more ≡ found ++ record { row = row; column = column } ∷ [] → Pushed old found row column →
     Pushed old more row (column + 1)
-pushed_more old found more row column place pushed h = subst (λ xs. Pushed old xs row (column + 1)) (sym pushed) (record {
+pushed_more old found more row column place pushed h = rw pushed (record {
   nodes = map-append pair found (node ∷ [])
       ∙ ap (λ xs. xs ++ (row, column) ∷ []) h.nodes
       ∙ append_assoc (map pair old) (row_nodes row (column - 1)) ((row, column) ∷ [])
-      ∙ ap (λ xs. map pair old ++ xs) (sym (map-range_with_len_more (λ c. (row, c)) 1 (column - 1) column (omega arith)))
+      ∙ ap (λ xs. map pair old ++ xs)
+      (sym (map-range_with_len_more (λ c. (row, c)) 1 (column - 1) column (omega arith)))
       ∙ ap (λ n. map pair old ++ row_nodes row n) (omega arith);
   len = omega (arith, length-append found (node ∷ []), h.len);
   places = λ all. All-push IsPlace found node (h.places all) place;
@@ -51,8 +52,8 @@ pub listed_room : (parts : List ℕ) (found : List Node) (row : ℕ) → IsHeld 
 listed_room parts found row held least most h =
     omega (arith, h.len, sum_by_more_le (λ x. x) parts (row - 1) 0 (omega arith), held.small)
 
-pub listed_row : (parts : List ℕ) (found more : List Node) (row n : ℕ) → 1 ≤ row → row ≤ length parts → n ≡ part parts row →
-    map pair more ≡ map pair found ++ row_nodes row n → length more ≡ length found + n →
+pub listed_row : (parts : List ℕ) (found more : List Node) (row n : ℕ) → 1 ≤ row → row ≤ length parts →
+    n ≡ part parts row → map pair more ≡ map pair found ++ row_nodes row n → length more ≡ length found + n →
     (All IsPlace found → All IsPlace more) → Listed parts found row → Listed parts more (row + 1)
 listed_row parts found more row n least most is filled len places h = record {
   nodes = filled

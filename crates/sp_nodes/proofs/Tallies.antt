@@ -1,11 +1,11 @@
 -- Counts by residue, node by node.
-use Rattle.std.proofs.Common.{◌≡◌, ◌≢◌, ℕ, ◌+◌, ◌<◌, ◌≤◌, Bool, true, false, cond, nat_eq, List, [], ◌∷◌, ◌++◌, map, take, length}
-use Rattle.std.proofs.Common.{count_by, slice_index, slice_set, get_or, refl, sym, ◌∙◌, ap, ap₂, subst, inl, inr, arith}
-use Rattle.std.proofs.Common.{get_or-set_same, get_or-set_other, length-append, zero-add, add-zero, replicate, zero, suc, length-set}
+use Rattle.std.proofs.Common.{◌≡◌, ℕ, ◌+◌, ◌<◌, true, false, cond, nat_eq, List, [], ◌∷◌, ◌++◌, map, length, count_by}
+use Rattle.std.proofs.Common.{slice_index, slice_set, refl, sym, ◌∙◌, ap, inl, inr, arith, get_or-set_same}
+use Rattle.std.proofs.Common.{get_or-set_other, zero-add, add-zero, replicate, zero, suc, length-set}
 use Rattle.std.proofs.lemmas.Bool.{cases_eq}
 use Rattle.std.proofs.lemmas.Bool.Decides.{nat_tests}
-use Rattle.std.proofs.lemmas.List.{take_more, map-append}
-use Rattle.std.proofs.lemmas.List.Sums.{sum_by-append, count_by-le-length}
+use Rattle.std.proofs.lemmas.List.{map-append}
+use Rattle.std.proofs.lemmas.List.Sums.{sum_by-append}
 use Rattle.sp_defs.specs.Node.{residue}
 use Rattle.sp_nodes.specs.declared.node.Node.{Node}
 use Rattle.sp_nodes.specs.Nodes.{pair}

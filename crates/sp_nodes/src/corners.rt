@@ -6,7 +6,7 @@ ghost use Rattle.sp_nodes.specs.Nodes.{pair, of_residue};
 ghost use Rattle.sp_nodes.specs.Marks.{mark_of};
 ghost use Rattle.sp_nodes.specs.Rows.{gained, lost};
 
-use crate::node::{residue, Node};
+use crate::node::{Node, residue};
 use crate::rows::{can_gain, can_lose, row_count, row_length};
 use arrayvec::ArrayVec;
 use sp_partition::Partition;
@@ -91,7 +91,11 @@ fn addable_in_row(e: u8, i: u8, p: &Partition, row: u8) -> Option<Node>
         row,
         column: row_length(p, row) + 1,
     };
-    if residue(e, node) == i { Some(node) } else { None }
+    if residue(e, node) == i {
+        Some(node)
+    } else {
+        None
+    }
 }
 
 fn removable_in_row(e: u8, i: u8, p: &Partition, row: u8) -> Option<Node>
@@ -108,7 +112,11 @@ fn removable_in_row(e: u8, i: u8, p: &Partition, row: u8) -> Option<Node>
         row,
         column: row_length(p, row),
     };
-    if residue(e, node) == i { Some(node) } else { None }
+    if residue(e, node) == i {
+        Some(node)
+    } else {
+        None
+    }
 }
 
 // A row never has two marks, since its last node and the place after it have different residues.

@@ -1,13 +1,13 @@
-ghost use Rattle.std.specs.Prelude.{◌≡◌, ℕ, ◌+◌, ◌<◌, ◌≤◌, ◌++◌, All, IsTrue, map, count_by, length, nat_eq, slice_index};
+ghost use Rattle.std.specs.Prelude.{◌≡◌, ℕ, ◌+◌, ◌<◌, ◌≤◌, ◌++◌, All, IsTrue, map, slice_index};
 ghost use Rattle.std.specs.List.{range_with_len};
 ghost use Rattle.arrayvec.specs.ArrayVec.{array_vec_len};
 ghost use Rattle.sp_defs.specs.Partition.{IsPartition};
-ghost use Rattle.sp_defs.specs.Node.{nodes as nodes_of, in_diagram, residue as residue_of, content as content_of, hook as hook_of};
+ghost use Rattle.sp_defs.specs.Node.{nodes as nodes_of, in_diagram, content as content_of, hook as hook_of};
 ghost use Rattle.sp_shapes.proofs.Columns.{column as column_of};
 ghost use Rattle.sp_nodes.specs.Nodes.{pair, IsPlace};
 ghost use Rattle.sp_nodes.specs.Rows.{row_nodes};
 
-use crate::node::{residue, Node};
+use crate::node::{Node, residue};
 use crate::rows::{row_count, row_length};
 use arrayvec::ArrayVec;
 use sp_partition::Partition;
@@ -67,7 +67,7 @@ fn tally(e: u8, p: &Partition) -> [u8; 64]
 /// One more than the nodes to the right of this node and below it.
 pub fn hook(p: &Partition, node: Node) -> u8
     requires { IsTrue (in_diagram p.now (pair node)) }
-    ensures value { result ≡ hook_of p.now (pair node) }
+    ensures { result ≡ hook_of p.now (pair node) }
 {
     let right = row_length(p, node.row) - node.column;
     let below = column_length(p, node.column) - node.row;

@@ -7,10 +7,12 @@ mod corners;
 mod diagram;
 mod node;
 mod rows;
+mod texts;
 
-pub use corners::{addable, marks, removable, Corner, Mark};
+pub use corners::{Corner, Mark, addable, marks, removable};
 pub use diagram::{content, hook, nodes};
-pub use node::{residue, Node};
+pub use node::{Node, residue};
+pub use texts::{diagram_text, hooks_text};
 
 #[cfg(test)]
 mod tests;

@@ -1,5 +1,7 @@
 -- The canonical text of a partition that there is room for is read as that partition, and no other text is.
-use Rattle.std.proofs.Common.{◌≡◌, ℕ, zero, suc, ◌*◌, ◌<◌, ◌≤◌, cond, List, [], ◌∷◌, ◌++◌, length, drop, replicate, slice_index, codes, refl, sym, ◌∙◌, ap, ap₂, subst, arith, ◌⊎◌, inl, inr, append-nil, append_assoc, lt-ltb, length-drop, eq-or-lt_of_le}
+use Rattle.std.proofs.Common.{◌≡◌, ℕ, zero, suc, ◌*◌, ◌<◌, ◌≤◌, cond, List, [], ◌∷◌, ◌++◌, length, drop, replicate}
+use Rattle.std.proofs.Common.{slice_index, codes, refl, sym, ◌∙◌, ap, ap₂, subst, arith, ◌⊎◌, inl, inr, append-nil}
+use Rattle.std.proofs.Common.{append_assoc, lt-ltb, length-drop, eq-or-lt_of_le}
 use Rattle.std.specs.Fmt.{decimal}
 use Rattle.std.specs.Prelude.{Result, Ok, Err}
 use Rattle.std.specs.Result.{IfOk}
@@ -34,7 +36,8 @@ number_text n some small = record {
 
 number_only : (text : List ℕ) (n : ℕ) → n ≤ CAPACITY → IsNumber text n → text ≡ decimal n
 number_only text n small h =
-    sym (decimal-digits_value (numerals_by_value (AllDigits 10) tells_digits) text h.digits.1 h.digits.0 (λ e. absurd (h.first e)) (omega (arith, h.value)))
+    sym (decimal-digits_value (numerals_by_value (AllDigits 10) tells_digits) text h.digits.1 h.digits.0
+    (λ e. absurd (h.first e)) (omega (arith, h.value)))
     ∙ ap decimal h.value
 
 often_text : (p m : ℕ) → 2 ≤ m → decimal p ++ (codes "^" ++ decimal m) ≡ part_text p m
@@ -47,8 +50,10 @@ item_text p m hp sp hm sm = settle (eq-or-lt_of_le (least hm))
     least h = omega arith
 
     settle : (1 ≡ m) ⊎ (1 < m) → IsItem (part_text p m) p m
-    settle (inl e) = subst (λ n. IsItem (part_text p n) p n) e (subst (λ t. IsItem t p 1) (sym (append-nil (decimal p))) (once (decimal p) p (number_text p hp sp)))
-    settle (inr two) = subst (λ t. IsItem t p m) (often_text p m (omega arith)) (often (decimal p) (decimal m) p m (number_text p hp sp) (number_text m hm sm) (omega arith))
+    settle (inl e) = subst (λ n. IsItem (part_text p n) p n) e
+        (subst (λ t. IsItem t p 1) (sym (append-nil (decimal p))) (once (decimal p) p (number_text p hp sp)))
+    settle (inr two) = subst (λ t. IsItem t p m) (often_text p m (omega arith))
+        (often (decimal p) (decimal m) p m (number_text p hp sp) (number_text m hm sm) (omega arith))
 
 item_only : (text : List ℕ) (p m : ℕ) → p ≤ CAPACITY → m ≤ CAPACITY → IsItem text p m → text ≡ part_text p m
 item_only text p m sp sm (once _ _ h) = number_only text p sp h ∙ sym (append-nil (decimal p))
@@ -67,7 +72,8 @@ behind_held : (m p : ℕ) (more : List ℕ) → IsHeld (replicate m p ++ more) �
 behind_held zero p more h = h
 behind_held (suc m) p more h = behind_held m p more (record {
   partition = IsPartition-tail p (replicate m p ++ more) h.partition;
-  small = let s : degree (p ∷ (replicate m p ++ more)) ≤ CAPACITY = h.small in omega (arith, sum_by-cons (λ x. x) p (replicate m p ++ more));
+  small = let s : degree (p ∷ (replicate m p ++ more)) ≤ CAPACITY = h.small in
+      omega (arith, sum_by-cons (λ x. x) p (replicate m p ++ more));
 })
 
 small_run : (m p : ℕ) (more : List ℕ) → 0 < m → 0 < p → IsHeld (replicate m p ++ more) → Small m p more
@@ -88,7 +94,8 @@ below_more : (p : ℕ) (more : List ℕ) → IsPartition more → slice_index mo
 below_more p [] h lt = tt
 below_more p (x ∷ more) h lt = below_all p x more h lt
 
-run_text : (m p : ℕ) (rest : List ℕ) → 0 < m → Below p rest → partition_text (replicate m p ++ rest) ≡ part_text p m ++ later_text rest
+run_text : (m p : ℕ) (rest : List ℕ) → 0 < m → Below p rest →
+    partition_text (replicate m p ++ rest) ≡ part_text p m ++ later_text rest
 run_text zero p rest hm h = absurd (omega arith)
 run_text (suc m) p rest hm h = text-run m p rest h
 
@@ -120,15 +127,18 @@ list_only text parts (single _ p m item) h =
 list_only text parts (followed first rest more p m item others less) h =
     let some = item_some first p m item in
     let small = small_run m p more some.1 some.0 h in
-    ap₂ (λ xs ys. xs ++ (codes "," ++ ys)) (item_only first p m small.part small.count item) (list_only rest more others small.more_held)
+    ap₂ (λ xs ys. xs ++ (codes "," ++ ys)) (item_only first p m small.part small.count item)
+    (list_only rest more others small.more_held)
     ∙ ap (λ ys. part_text p m ++ ys) (sym (later_some more (list_some rest more others)))
     ∙ sym (run_text m p more some.1 (below_more p more small.more_held.partition less))
 
 -- The canonical text of such a partition is a list.
-list_text : (n : ℕ) (parts : List ℕ) → length parts ≤ n → 0 < length parts → IsHeld parts → IsList (partition_text parts) parts
+list_text : (n : ℕ) (parts : List ℕ) → length parts ≤ n → 0 < length parts → IsHeld parts →
+    IsList (partition_text parts) parts
 list_text zero parts le some h = absurd (omega arith)
 list_text (suc n) [] le some h = absurd (omega arith)
-list_text (suc n) (p ∷ parts) le some h = subst (λ xs. IsList (partition_text xs) xs) (sym split.list) (behind (list_text n) (drop count (p ∷ parts)) refl)
+list_text (suc n) (p ∷ parts) le some h = subst (λ xs. IsList (partition_text xs) xs) (sym split.list)
+    (behind (list_text n) (drop count (p ∷ parts)) refl)
   where
     count : ℕ
     count = lead (p ∷ parts)
@@ -149,10 +159,13 @@ list_text (suc n) (p ∷ parts) le some h = subst (λ xs. IsList (partition_text
     item = item_text p count (IsPartition-head p parts h.partition) small.part positive small.count
 
     behind : ((ps : List ℕ) → length ps ≤ n → 0 < length ps → IsHeld ps → IsList (partition_text ps) ps) →
-        (rest : List ℕ) → drop count (p ∷ parts) ≡ rest → IsList (partition_text (replicate count p ++ rest)) (replicate count p ++ rest)
+        (rest : List ℕ) → drop count (p ∷ parts) ≡ rest →
+        IsList (partition_text (replicate count p ++ rest)) (replicate count p ++ rest)
     behind shorter [] e =
         subst (λ xs. IsList (partition_text xs) xs) (sym (append-nil (replicate count p)))
-        (subst (λ t. IsList t (replicate count p)) (sym (ap partition_text (sym (append-nil (replicate count p))) ∙ run_text count p [] positive tt ∙ append-nil (part_text p count)))
+        (subst (λ t. IsList t (replicate count p))
+        (sym (ap partition_text (sym (append-nil (replicate count p))) ∙ run_text count p [] positive tt
+        ∙ append-nil (part_text p count)))
         (single (part_text p count) p count item))
     behind shorter (q ∷ qs) e =
         let below : Below p (q ∷ qs) = subst (Below p) e split.below in
@@ -164,7 +177,8 @@ list_text (suc n) (p ∷ parts) le some h = subst (λ xs. IsList (partition_text
 pub read_text : (parts : List ℕ) → IsHeld parts → IsReadAs (partition_text parts) parts
 unfolding partition_text
 read_text [] h = dash
-read_text (p ∷ parts) h = listed (partition_text (p ∷ parts)) (p ∷ parts) (list_text (length (p ∷ parts)) (p ∷ parts) (omega arith) (omega arith) h)
+read_text (p ∷ parts) h = listed (partition_text (p ∷ parts)) (p ∷ parts)
+    (list_text (length (p ∷ parts)) (p ∷ parts) (omega arith) (omega arith) h)
 
 pub text_only : (text parts : List ℕ) → IsReadAs text parts → IsHeld parts → text ≡ partition_text parts
 unfolding partition_text
@@ -188,23 +202,31 @@ item_before text behind p m (often base exponent _ _ h k two) =
     (number_before base ((codes "^" ++ exponent) ++ behind) p h)
 
 pub list_first : (text parts : List ℕ) → IsList text parts → 48 ≤ slice_index text 0
-list_first text parts (single _ p m item) = subst (λ xs. 48 ≤ slice_index xs 0) (append-nil text) (item_before text [] p m item)
+list_first text parts (single _ p m item) = subst (λ xs. 48 ≤ slice_index xs 0) (append-nil text)
+    (item_before text [] p m item)
 list_first text parts (followed first rest more p m item others less) = item_before first (codes "," ++ rest) p m item
 
 -- ---- what the reader answers
 
 dash_only : (text q : List ℕ) → text ≡ codes "-" → IsReadAs text q → q ≡ []
 dash_only text q e dash = refl
-dash_only text q e (listed _ _ l) = let first = list_first text q l in absurd (let is : slice_index text 0 ≡ 45 = ap (λ xs. slice_index xs 0) e in omega arith)
+dash_only text q e (listed _ _ l) = let first = list_first text q l in
+    absurd (let is : slice_index text 0 ≡ 45 = ap (λ xs. slice_index xs 0) e in omega arith)
 
 list_of : (text q : List ℕ) → (text ≡ codes "-" → ⊥) → IsReadAs text q → IsList text q
 list_of text q n dash = absurd (n refl)
 list_of text q n (listed _ _ l) = l
 
 pub reads_dash : (text : List ℕ) → text ≡ codes "-" → ReadsTo (IsReadAs text) (Ok [])
-reads_dash text e = (subst (λ t. IsReadAs t []) (sym e) dash, record { partition = IsPartition-nil; small = omega arith }, λ q h. dash_only text q e h)
+reads_dash text e = (
+  subst (λ t. IsReadAs t [])
+      (sym e) dash,
+  record { partition = IsPartition-nil; small = omega arith },
+  λ q h. dash_only text q e h,
+)
 
-pub reads_list : (text : List ℕ) (r : Result (List ℕ) NotPartition) → (text ≡ codes "-" → ⊥) → ReadsTo (IsList text) r → ReadsTo (IsReadAs text) r
+pub reads_list : (text : List ℕ) (r : Result (List ℕ) NotPartition) → (text ≡ codes "-" → ⊥) →
+    ReadsTo (IsList text) r → ReadsTo (IsReadAs text) r
 reads_list text (Ok p) n (h, held, only) = (listed text p h, held, λ q k. only q (list_of text q n k))
 reads_list text (Err Shape) n none = λ q k. none q (list_of text q n k)
 reads_list text (Err PastCapacity) n (p, h, past, only) = (p, listed text p h, past, λ q k. only q (list_of text q n k))
@@ -223,7 +245,9 @@ parses text (Ok p) (h, is_held, only) = record {
   ok = (h, is_held);
   held = λ q k small. ap Ok (sym (only q k));
   past_is = λ e. cc;
-  past = λ over. absurd (let s : degree p ≤ CAPACITY = is_held.small in let same : degree over.0 ≡ degree p = ap degree (only over.0 over.1) in omega (arith, over.2));
+  past = λ over. absurd
+      (let s : degree p ≤ CAPACITY = is_held.small in
+      let same : degree over.0 ≡ degree p = ap degree (only over.0 over.1) in omega (arith, over.2));
   shape_is = λ e. cc;
   shape = λ none. absurd (none p h);
 }
@@ -244,8 +268,10 @@ parses text (Err PastCapacity) (p, h, over, only) = record {
   shape = λ none. absurd (none p h);
 }
 
-pub canonical_ok : (text : List ℕ) (r : Result (List ℕ) NotPartition) → Parses text r → (p : List ℕ) → IsHeld p → r ≡ Ok p → text ≡ partition_text p
+pub canonical_ok : (text : List ℕ) (r : Result (List ℕ) NotPartition) → Parses text r → (p : List ℕ) → IsHeld p →
+    r ≡ Ok p → text ≡ partition_text p
 canonical_ok text r h p held e = text_only text p (subst (λ o. IfOk o (λ q. IsReadAs text q × IsHeld q)) e h.ok).0 held
 
-pub canonical_text : (text : List ℕ) (r : Result (List ℕ) NotPartition) → Parses text r → (p : List ℕ) → IsHeld p → text ≡ partition_text p → r ≡ Ok p
+pub canonical_text : (text : List ℕ) (r : Result (List ℕ) NotPartition) → Parses text r → (p : List ℕ) → IsHeld p →
+    text ≡ partition_text p → r ≡ Ok p
 canonical_text text r h p held e = h.held p (subst (λ t. IsReadAs t p) (sym e) (read_text p held)) held.small

@@ -1,5 +1,6 @@
 -- Equal parts behind the others: the fields.
-use Rattle.std.proofs.Common.{◌≡◌, ℕ, ◌+◌, ◌-◌, ◌*◌, ◌≤◌, List, ◌++◌, take, drop, length, replicate, sym, ◌∙◌, ap, ap₂, subst, arith, append_assoc}
+use Rattle.std.proofs.Common.{◌≡◌, ℕ, ◌+◌, ◌-◌, ◌*◌, ◌≤◌, List, ◌++◌, take, drop, length, replicate, sym, ◌∙◌, ap}
+use Rattle.std.proofs.Common.{ap₂, subst, arith, append_assoc}
 use borrow.Rule.Slice.PartMut.{put_mid}
 use Rattle.std.proofs.lemmas.List.{drop-replicate}
 use Rattle.std.proofs.lemmas.List.Sums.{sum_by-append}
@@ -11,9 +12,11 @@ use Rattle.sp_partition.specs.Padded.{IsPadded, padded}
 use Rattle.sp_partition.specs.declared.TheConstants.{CAPACITY}
 use Rattle.sp_partition.proofs.Holding.{Holds, fields_hold, few_parts, holds_padded, holds_view}
 
-pub degree-run : (parts : List ℕ) (part times : ℕ) → degree (parts ++ replicate times part) ≡ degree parts + times * part
+pub degree-run : (parts : List ℕ) (part times : ℕ) →
+    degree (parts ++ replicate times part) ≡ degree parts + times * part
 degree-run parts part times =
-    sum_by-append (λ x. x) parts (replicate times part) ∙ ap (λ n. degree parts + n) (sum_by-replicate (λ x. x) times part)
+    sum_by-append (λ x. x) parts (replicate times part)
+    ∙ ap (λ n. degree parts + n) (sum_by-replicate (λ x. x) times part)
 
 length-run : (parts : List ℕ) (part times : ℕ) → length (parts ++ replicate times part) ≡ length parts + times
 length-run parts part times = grind (arith, common_steps)
@@ -25,17 +28,21 @@ length-middle m n xs h = grind (arith, common_steps)
 pub record Extends (degree_is count : ℕ) (array now : List ℕ) (part times : ℕ) : Type 0 where
   pub small : degree now + times * part ≤ CAPACITY
   pub few : count + times ≤ CAPACITY
-  pub padded : (size : ℕ) (written : List ℕ) → size ≡ times → written ≡ replicate (length (take size (drop count array))) part →
+  pub padded : (size : ℕ) (written : List ℕ) → size ≡ times →
+      written ≡ replicate (length (take size (drop count array))) part →
       IsPadded (degree_is + times * part) (count + times) (put_mid count size array written)
-  pub shows : (size : ℕ) (written : List ℕ) → size ≡ times → written ≡ replicate (length (take size (drop count array))) part →
+  pub shows : (size : ℕ) (written : List ℕ) → size ≡ times →
+      written ≡ replicate (length (take size (drop count array))) part →
       take (count + times) (put_mid count size array written) ≡ now ++ replicate times part
 
-written_array : (now : List ℕ) (part times : ℕ) → put_mid (length now) times (padded now) (replicate times part) ≡ padded (now ++ replicate times part)
+written_array : (now : List ℕ) (part times : ℕ) →
+    put_mid (length now) times (padded now) (replicate times part) ≡ padded (now ++ replicate times part)
 written_array now part times =
     ap₂ (λ xs ys. xs ++ (replicate times part ++ drop times ys)) front back
     ∙ ap (λ ys. now ++ (replicate times part ++ ys)) (drop-replicate times (CAPACITY - length now) 0)
     ∙ sym (append_assoc now (replicate times part) (replicate (CAPACITY - length now - times) 0))
-    ∙ ap (λ n. (now ++ replicate times part) ++ replicate n 0) (less (length now) times (length (now ++ replicate times part)) (length-run now part times))
+    ∙ ap (λ n. (now ++ replicate times part) ++ replicate n 0)
+    (less (length now) times (length (now ++ replicate times part)) (length-run now part times))
   where
     front : take (length now) (padded now) ≡ now
     front = grind (arith, common_steps)
@@ -46,8 +53,10 @@ written_array now part times =
     less : (l t n : ℕ) → n ≡ l + t → CAPACITY - l - t ≡ CAPACITY - n
     less l t n e = omega arith
 
-pub extends : (degree_is count : ℕ) (array now : List ℕ) (part times : ℕ) → IsPadded degree_is count array → take count array ≡ now →
-    degree_is + times * part ≤ CAPACITY → (degree now + times * part ≤ CAPACITY → IsPartition (now ++ replicate times part)) →
+pub extends : (degree_is count : ℕ) (array now : List ℕ) (part times : ℕ) → IsPadded degree_is count array →
+    take count array ≡ now →
+    degree_is + times * part ≤ CAPACITY →
+    (degree now + times * part ≤ CAPACITY → IsPartition (now ++ replicate times part)) →
     Extends degree_is count array now part times
 extends degree_is count array now part times is shows below h = record {
   small = small;
@@ -72,13 +81,17 @@ extends degree_is count array now part times is shows below h = record {
     few = omega (arith, few_parts (now ++ replicate times part) held, length-run now part times, count_is)
 
     room : (size : ℕ) → size ≡ times → length (take size (drop count array)) ≡ times
-    room size e = length-middle size count array (let long : length array ≡ CAPACITY = is.size in omega (arith, few, e)) ∙ e
+    room size e = length-middle size count array
+        (let long : length array ≡ CAPACITY = is.size in omega (arith, few, e)) ∙ e
 
-    holds : (size : ℕ) (written : List ℕ) → size ≡ times → written ≡ replicate (length (take size (drop count array))) part →
-        Holds (now ++ replicate times part) (degree_is + times * part) (count + times) (put_mid count size array written)
+    holds : (size : ℕ) (written : List ℕ) → size ≡ times →
+        written ≡ replicate (length (take size (drop count array))) part →
+        Holds (now ++ replicate times part) (degree_is + times * part) (count + times)
+        (put_mid count size array written)
     holds size written e f = record {
       total = omega (arith, before.total, degree-run now part times);
       count_is = omega (arith, count_is, length-run now part times);
       array_is = ap₂ (λ c xs. put_mid c size xs written) count_is before.array_is
-          ∙ ap₂ (λ n ys. put_mid (length now) n (padded now) ys) e (f ∙ ap (λ n. replicate n part) (room size e)) ∙ written_array now part times;
+          ∙ ap₂ (λ n ys. put_mid (length now) n (padded now) ys) e (f ∙ ap (λ n. replicate n part) (room size e))
+          ∙ written_array now part times;
     }

@@ -10,7 +10,8 @@ pub record FallsTo (most count : ℕ) (parts : List ℕ) : Type 0 where
   pub descending : (k : ℕ) → k + 1 < count → slice_index parts (k + 1) ≤ slice_index parts k
   pub last : 0 < count → most ≡ slice_index parts (count - 1)
 
-pub falls_whole : (most count : ℕ) (parts : List ℕ) → length parts ≤ count → FallsTo most count parts → IsPartition parts
+pub falls_whole : (most count : ℕ) (parts : List ℕ) → length parts ≤ count → FallsTo most count parts →
+    IsPartition parts
 falls_whole most count parts all h = record {
   descending = λ k. step k (le_or_lt (length parts) (k + 1));
   positive = λ k d lt. let p = h.positive k (omega arith) in grind (arith, common_steps);

@@ -1,5 +1,7 @@
 -- One node more: the fields.
-use Rattle.std.proofs.Common.{◌≡◌, ◌≢◌, ℕ, zero, suc, ◌+◌, ◌-◌, ◌<◌, ◌≤◌, max, true, List, [], ◌∷◌, ◌++◌, take, length, replicate, slice_index, slice_set, refl, sym, ◌∙◌, ap, subst, arith, ◌⊎◌, inl, inr}
+use Rattle.std.proofs.Common.{◌≡◌, ◌≢◌, ℕ, zero, suc, ◌+◌, ◌-◌, ◌<◌, ◌≤◌, max, true, List, [], ◌∷◌, ◌++◌, take}
+use Rattle.std.proofs.Common.{length, replicate, slice_index, slice_set, refl, sym, ◌∙◌, ap, subst, arith, ◌⊎◌, inl}
+use Rattle.std.proofs.Common.{inr}
 use Rattle.std.proofs.lemmas.Bool.Decides.{nat_tests}
 use Rattle.std.proofs.lemmas.List.Sums.{sum_by-cons}
 use Rattle.sp_defs.specs.Partition.{degree, part}
@@ -19,7 +21,13 @@ degree-grow zero [] h = refl
 degree-grow zero (p ∷ parts) h = omega (arith, sum_by-cons (λ x. x) p parts, sum_by-cons (λ x. x) (suc p) parts)
 degree-grow (suc k) [] h = absurd (omega arith)
 degree-grow (suc k) (p ∷ parts) h =
-    omega (arith, sum_by-cons (λ x. x) p parts, sum_by-cons (λ x. x) p (grow k parts), degree-grow k parts (omega arith))
+    omega (
+      arith,
+      sum_by-cons (λ x. x) p parts,
+      sum_by-cons (λ x. x) p (grow k parts),
+      degree-grow k parts
+          (omega arith),
+    )
 
 pub length-grow : (k : ℕ) (parts : List ℕ) → k ≤ length parts → length (grow k parts) ≡ max (length parts) (k + 1)
 unfolding grow
@@ -51,7 +59,8 @@ set-grow (suc n) zero (p ∷ parts) h lt = ap (λ x. x ∷ (parts ++ replicate (
     one_more : p + 1 ≡ suc p
     one_more = omega arith
 set-grow (suc n) (suc k) [] h lt = absurd (omega arith)
-set-grow (suc n) (suc k) (p ∷ parts) h lt = simp less_one (ap (λ xs. p ∷ xs) (set-grow n k parts (omega arith) (omega arith)))
+set-grow (suc n) (suc k) (p ∷ parts) h lt = simp less_one
+    (ap (λ xs. p ∷ xs) (set-grow n k parts (omega arith) (omega arith)))
 
 -- ---- the row that grows
 
@@ -63,7 +72,11 @@ addable_less : (parts : List ℕ) (row : ℕ) → is_addable parts (row, part pa
 addable_less parts row h lt = grind (arith, nat_tests)
 
 addable_room : (parts : List ℕ) (row : ℕ) → is_addable parts (row, part parts row + 1) ≡ true → Room parts (row - 1)
-addable_room parts row h = record { there = there (le_or_lt row 1); less = λ lt. addable_less parts row h (omega arith) }
+addable_room parts row h = record {
+  there = there (le_or_lt row 1);
+  less = λ lt. addable_less parts row h
+      (omega arith);
+}
   where
     there : (row ≤ 1) ⊎ (1 < row) → row - 1 ≤ length parts
     there (inl le) = omega arith
@@ -119,7 +132,8 @@ grows_held degree_is count array now row is h adds below = record {
           ∙ set-grow CAPACITY (row - 1) now room.there place;
     }
 
-pub grows : (degree_is count : ℕ) (array now : List ℕ) (row : ℕ) → IsPadded degree_is count array → take count array ≡ now →
+pub grows : (degree_is count : ℕ) (array now : List ℕ) (row : ℕ) → IsPadded degree_is count array →
+    take count array ≡ now →
     true ≡ is_addable now (row, part now row + 1) → degree_is ≢ CAPACITY → Grows degree_is count array now row
 grows degree_is count array now row is shows adds below =
     grows_held degree_is count array now row

@@ -29,18 +29,26 @@ pub record Holds (parts : List ℕ) (degree_is count : ℕ) (array : List ℕ) :
   pub count_is : count ≡ length parts
   pub array_is : array ≡ padded parts
 
-pub fields_hold : (degree_is count : ℕ) (array : List ℕ) → IsPadded degree_is count array → Holds (take count array) degree_is count array
+pub fields_hold : (degree_is count : ℕ) (array : List ℕ) → IsPadded degree_is count array →
+    Holds (take count array) degree_is count array
 fields_hold degree_is count array is =
-    record { total = is.total; count_is = sym (padded-count degree_is count array is); array_is = sym (padded-array degree_is count array is) }
+    record {
+      total = is.total;
+      count_is = sym (padded-count degree_is count array is);
+      array_is = sym
+          (padded-array degree_is count array is);
+    }
 
 -- Fields that hold a partition meet the invariant, and show it.
-pub holds_padded : (parts : List ℕ) (degree_is count : ℕ) (array : List ℕ) → IsHeld parts → Holds parts degree_is count array →
+pub holds_padded : (parts : List ℕ) (degree_is count : ℕ) (array : List ℕ) → IsHeld parts →
+    Holds parts degree_is count array →
     IsPadded degree_is count array
 holds_padded parts degree_is count array h is =
     subst (λ d. IsPadded d count array) (sym is.total)
     (subst (λ c. IsPadded (degree parts) c array) (sym is.count_is)
     (subst (λ xs. IsPadded (degree parts) (length parts) xs) (sym is.array_is) (held_fields parts h)))
 
-pub holds_view : (parts : List ℕ) (degree_is count : ℕ) (array : List ℕ) → Holds parts degree_is count array → take count array ≡ parts
+pub holds_view : (parts : List ℕ) (degree_is count : ℕ) (array : List ℕ) → Holds parts degree_is count array →
+    take count array ≡ parts
 holds_view parts degree_is count array is =
     ap (λ c. take c array) is.count_is ∙ ap (take (length parts)) is.array_is ∙ take-padded parts

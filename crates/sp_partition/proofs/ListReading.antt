@@ -37,7 +37,8 @@ pub record OnlyItem (text parts : List ℕ) : Type 0 where
 
 pub only_item : (text parts : List ℕ) → Free 44 text → IsList text parts → OnlyItem text parts
 only_item text parts free (single _ p m item) = record { part = p; count = m; item = item; parts_are = refl }
-only_item text parts free (followed first rest more p m item others less) = absurd (no_mark 44 text first rest free refl)
+only_item text parts free (followed first rest more p m item others less) = absurd
+    (no_mark 44 text first rest free refl)
 
 -- A list that is an item and a list behind it.
 pub record FirstItem (piece rest parts : List ℕ) : Type 0 where
@@ -49,8 +50,10 @@ pub record FirstItem (piece rest parts : List ℕ) : Type 0 where
   pub less : slice_index more 0 < part
   pub parts_are : parts ≡ replicate count part ++ more
 
-pub first_item : (text piece rest parts : List ℕ) → Free 44 piece → text ≡ piece ++ 44 ∷ rest → IsList text parts → FirstItem piece rest parts
-first_item text piece rest parts free e (single _ p m item) = absurd (no_mark 44 text piece rest (item_free text p m item) e)
+pub first_item : (text piece rest parts : List ℕ) → Free 44 piece → text ≡ piece ++ 44 ∷ rest → IsList text parts →
+    FirstItem piece rest parts
+first_item text piece rest parts free e (single _ p m item) = absurd
+    (no_mark 44 text piece rest (item_free text p m item) e)
 first_item text piece rest parts free e (followed first rest' more p m item others less) =
     let same = split_once 44 first piece rest' rest (item_free first p m item) free e in
     record {
@@ -65,7 +68,8 @@ first_item text piece rest parts free e (followed first rest' more p m item othe
 
 -- ---- once the item is known
 
-pub only_parts : (text parts : List ℕ) (p m : ℕ) → Free 44 text → IsItem text p m → IsList text parts → parts ≡ replicate m p
+pub only_parts : (text parts : List ℕ) (p m : ℕ) → Free 44 text → IsItem text p m → IsList text parts →
+    parts ≡ replicate m p
 only_parts text parts p m free known h =
     let only = only_item text parts free h in
     let same = same_item text only.part only.count p m only.item known in
@@ -77,7 +81,8 @@ pub record Behind (rest parts : List ℕ) (p m : ℕ) : Type 0 where
   pub less : slice_index more 0 < p
   pub parts_are : parts ≡ replicate m p ++ more
 
-pub first_parts : (text piece rest parts : List ℕ) (p m : ℕ) → Free 44 piece → text ≡ piece ++ 44 ∷ rest → IsItem piece p m → IsList text parts → Behind rest parts p m
+pub first_parts : (text piece rest parts : List ℕ) (p m : ℕ) → Free 44 piece → text ≡ piece ++ 44 ∷ rest →
+    IsItem piece p m → IsList text parts → Behind rest parts p m
 first_parts text piece rest parts p m free e known h =
     let first = first_item text piece rest parts free e h in
     let same = same_item piece first.part first.count p m first.item known in

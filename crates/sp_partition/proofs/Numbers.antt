@@ -1,5 +1,7 @@
 -- Numbers as digits: what they are worth, and how they compare.
-use Rattle.std.proofs.Common.{◌≡◌, ◌≢◌, ℕ, suc, ◌+◌, ◌-◌, ◌*◌, ◌^◌, ◌<◌, ◌≤◌, Bool, true, false, cond, nat_eq, nat_lt, List, [], ◌∷◌, length, slice_index, refl, sym, ◌∙◌, ap, ap₂, subst, arith, ◌⊎◌, inl, inr, mul-le-mul_right, eqb-true, ltb-true, lt-ltb, true≢false, min, take}
+use Rattle.std.proofs.Common.{◌≡◌, ◌≢◌, ℕ, suc, ◌+◌, ◌-◌, ◌*◌, ◌^◌, ◌<◌, ◌≤◌, Bool, true, false, cond, nat_eq, nat_lt}
+use Rattle.std.proofs.Common.{List, [], ◌∷◌, length, slice_index, refl, sym, ◌∙◌, ap, ap₂, subst, arith, ◌⊎◌, inl}
+use Rattle.std.proofs.Common.{inr, mul-le-mul_right, eqb-true, ltb-true, lt-ltb, true≢false, min, take}
 use native.Mathlib.Nat.{pow-succ', pow-le-pow_right, one-le-pow}
 use Rattle.std.specs.Char.{digit_value}
 use Rattle.std.specs.Str.Parse.{AllDigits, digits_value, digits_value_after}
@@ -9,6 +11,7 @@ use Rattle.std.proofs.lemmas.Str.{digit_value_digit}
 use Rattle.std.proofs.lemmas.Str.Parse.{digit_from_value, digit_at}
 use Rattle.sp_lists.proofs.Elements.{le_or_lt}
 use Rattle.sp_partition.specs.Grammar.{IsNumber}
+use Rattle.sp_partition.specs.Pieces.{DigitsAt}
 
 -- The digits so far weigh the more the more digits follow.
 after_is : (n : ℕ) (ds : List ℕ) → digits_value_after 10 n ds ≡ n * 10 ^ length ds + digits_value 10 ds
@@ -21,7 +24,8 @@ after_is n (d ∷ ds) =
     ring n d p v = omega arith
 
 pub value-cons : (d : ℕ) (ds : List ℕ) → digits_value 10 (d ∷ ds) ≡ digit_value d * 10 ^ length ds + digits_value 10 ds
-value-cons d ds = after_is (0 + digit_value d) ds ∙ ap (λ n. n * 10 ^ length ds + digits_value 10 ds) (alone (digit_value d))
+value-cons d ds = after_is (0 + digit_value d) ds
+    ∙ ap (λ n. n * 10 ^ length ds + digits_value 10 ds) (alone (digit_value d))
   where
     alone : (n : ℕ) → 0 + n ≡ n
     alone n = omega arith
@@ -44,17 +48,20 @@ heavier x y p v w lt small = omega (arith, mul-le-mul_right p (above x y lt), sp
     spread x p = omega arith
 
 digits_apart : (x y : ℕ) → digit_value x < 10 → digit_value y < 10 → x < y → digit_value x < digit_value y
-digits_apart x y hx hy lt = omega (arith, digit_value_digit x (digit_from_value x hx), digit_value_digit y (digit_from_value y hy))
+digits_apart x y hx hy lt = omega
+    (arith, digit_value_digit x (digit_from_value x hx), digit_value_digit y (digit_from_value y hy))
 
 below_power : (xs ys : List ℕ) → length xs ≡ length ys → AllDigits 10 xs → digits_value 10 xs < 10 ^ length ys
 below_power xs ys e h = subst (λ n. digits_value 10 xs < 10 ^ n) e (digits_value-lt 10 xs h)
 
 pub less_value : (xs ys : List ℕ) → length xs ≡ length ys → AllDigits 10 xs → AllDigits 10 ys →
-    (digits_less xs ys ≡ true → digits_value 10 xs < digits_value 10 ys) × (digits_value 10 xs < digits_value 10 ys → digits_less xs ys ≡ true)
+    (digits_less xs ys ≡ true → digits_value 10 xs < digits_value 10 ys) ×
+    (digits_value 10 xs < digits_value 10 ys → digits_less xs ys ≡ true)
 less_value [] [] e hx hy = ((λ t. absurd (true≢false (sym t))), λ lt. absurd (omega arith))
 less_value [] (y ∷ ys) e hx hy = absurd (omega arith)
 less_value (x ∷ xs) [] e hx hy = absurd (omega arith)
-less_value (x ∷ xs) (y ∷ ys) e (hx, hxs) (hy, hys) = by_heads (nat_eq x y) refl (nat_lt x y) refl (less_value xs ys rest hxs hys)
+less_value (x ∷ xs) (y ∷ ys) e (hx, hxs) (hy, hys) = by_heads (nat_eq x y) refl (nat_lt x y) refl
+    (less_value xs ys rest hxs hys)
   where
     rest : length xs ≡ length ys
     rest = omega arith
@@ -66,12 +73,17 @@ less_value (x ∷ xs) (y ∷ ys) e (hx, hxs) (hy, hys) = by_heads (nat_eq x y) r
     worth_y = value-cons y ys
 
     by_heads : (same : Bool) → nat_eq x y ≡ same → (lower : Bool) → nat_lt x y ≡ lower →
-        (digits_less xs ys ≡ true → digits_value 10 xs < digits_value 10 ys) × (digits_value 10 xs < digits_value 10 ys → digits_less xs ys ≡ true) →
+        (digits_less xs ys ≡ true → digits_value 10 xs < digits_value 10 ys) ×
+        (digits_value 10 xs < digits_value 10 ys → digits_less xs ys ≡ true) →
         (cond same (digits_less xs ys) lower ≡ true → digits_value 10 (x ∷ xs) < digits_value 10 (y ∷ ys))
         × (digits_value 10 (x ∷ xs) < digits_value 10 (y ∷ ys) → cond same (digits_less xs ys) lower ≡ true)
     by_heads true s lower l ih =
-        let e : digit_value x * 10 ^ length ys ≡ digit_value y * 10 ^ length ys = ap (λ d. digit_value d * 10 ^ length ys) (eqb-true x y s) in
-        ((λ t. let lt : digits_value 10 xs < digits_value 10 ys = ih.0 t in omega (arith, worth_x, worth_y)), λ lt. ih.1 (omega (arith, worth_x, worth_y)))
+        let e : digit_value x * 10 ^ length ys ≡ digit_value y * 10 ^ length ys = ap
+        (λ d. digit_value d * 10 ^ length ys) (eqb-true x y s) in (
+          (λ t. let lt : digits_value 10 xs < digits_value 10 ys = ih.0 t in
+              omega (arith, worth_x, worth_y)),
+          λ lt. ih.1 (omega (arith, worth_x, worth_y)),
+        )
     by_heads false s true l ih = (
       (λ t. omega (
         arith,
@@ -106,10 +118,19 @@ first_digit d ds n h =
 
 -- ---- of two lengths: the longer is the greater
 
-pub longer_value : (xs ys : List ℕ) (m n : ℕ) → IsNumber xs m → IsNumber ys n → length xs < length ys → digits_value 10 xs < digits_value 10 ys
+pub longer_value : (xs ys : List ℕ) (m n : ℕ) → IsNumber xs m → IsNumber ys n → length xs < length ys →
+    digits_value 10 xs < digits_value 10 ys
 longer_value xs [] m n hx hy lt = absurd (omega arith)
 longer_value xs (y ∷ ys) m n hx hy lt =
-    omega (arith, digits_value-lt 10 xs hx.digits.1, power, value-cons y ys, mul-le-mul_right (10 ^ length ys) (first_digit y ys n hy), one (10 ^ length ys))
+    omega (
+      arith,
+      digits_value-lt 10 xs hx.digits.1,
+      power,
+      value-cons y ys,
+      mul-le-mul_right (10 ^ length ys)
+          (first_digit y ys n hy),
+      one (10 ^ length ys),
+    )
   where
     power : 10 ^ length xs ≤ 10 ^ length ys
     power = pow-le-pow_right (omega arith) (omega arith)
@@ -120,7 +141,15 @@ longer_value xs (y ∷ ys) m n hx hy lt =
 pub number_positive : (text : List ℕ) (n : ℕ) → IsNumber text n → 0 < n
 number_positive [] n h = absurd (let some = h.digits.0 in omega arith)
 number_positive (d ∷ ds) n h =
-    omega (arith, h.value, value-cons d ds, mul-le-mul_right (10 ^ length ds) (first_digit d ds n h), one (10 ^ length ds), one-le-pow (length ds) 10 (omega arith))
+    omega (
+      arith,
+      h.value,
+      value-cons d ds,
+      mul-le-mul_right (10 ^ length ds) (first_digit d ds n h),
+      one
+          (10 ^ length ds),
+      one-le-pow (length ds) 10 (omega arith),
+    )
   where
     one : (p : ℕ) → 1 * p ≡ p
     one p = omega arith
@@ -129,27 +158,31 @@ number_positive (d ∷ ds) n h =
 pub shorter_less : (xs ys : List ℕ) (m n : ℕ) → IsNumber xs m → IsNumber ys n → length xs ≢ length ys →
     (nat_lt (length xs) (length ys) ≡ true → digits_value 10 xs < digits_value 10 ys)
     × (digits_value 10 xs < digits_value 10 ys → nat_lt (length xs) (length ys) ≡ true)
-shorter_less xs ys m n hx hy ne =
-    ((λ t. longer_value xs ys m n hx hy (ltb-true (length xs) (length ys) t)), λ lt. settle lt (le_or_lt (length ys) (length xs)))
+shorter_less xs ys m n hx hy ne = (
+  (λ t. longer_value xs ys m n hx hy (ltb-true (length xs) (length ys) t)),
+  λ lt. settle lt
+      (le_or_lt (length ys) (length xs)),
+)
   where
-    settle : digits_value 10 xs < digits_value 10 ys → (length ys ≤ length xs) ⊎ (length xs < length ys) → nat_lt (length xs) (length ys) ≡ true
+    settle : digits_value 10 xs < digits_value 10 ys → (length ys ≤ length xs) ⊎ (length xs < length ys) →
+        nat_lt (length xs) (length ys) ≡ true
     settle lt (inl le) =
-        let greater : digits_value 10 ys < digits_value 10 xs = longer_value ys xs n m hy hx (omega arith) in absurd (omega arith)
+        let greater : digits_value 10 ys < digits_value 10 xs = longer_value ys xs n m hy hx (omega arith) in
+        absurd (omega arith)
     settle lt (inr less) = lt-ltb (length xs) (length ys) less
 
 -- ---- the number, up to a limit
 
 pub next_value : (ds : List ℕ) (i value tens whole : ℕ) → AllDigits 10 ds → i < length ds →
-    value ≡ min (digits_value 10 (take i ds)) 255 → tens ≡ min (value * 10) 255 → whole ≡ min (tens + (slice_index ds i - 48)) 255 →
+    value ≡ min (digits_value 10 (take i ds)) 255 → tens ≡ min (value * 10) 255 →
+    whole ≡ min (tens + (slice_index ds i - 48)) 255 →
     whole ≡ min (digits_value 10 (take (i + 1) ds)) 255
 next_value ds i value tens whole h lt is is_tens is_whole =
-    let worth : digit_value (slice_index ds i) + 48 ≡ slice_index ds i = digit_value_digit (slice_index ds i) (digit_at ds i h lt) in
+    let worth : digit_value (slice_index ds i) + 48 ≡ slice_index ds i = digit_value_digit (slice_index ds i)
+    (digit_at ds i h lt) in
     omega (arith, digits_value_more 10 ds i lt)
 
 -- ---- digits, by place
-
-abbrev pub DigitsAt : List ℕ → Type 0
-DigitsAt ds = (k : ℕ) → k < length ds → (48 ≤ slice_index ds k) × (slice_index ds k ≤ 57)
 
 pub all_digits : (ds : List ℕ) → DigitsAt ds → AllDigits 10 ds
 all_digits [] h = tt

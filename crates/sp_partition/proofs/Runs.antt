@@ -1,5 +1,8 @@
 -- A partition's text, run by run.
-use Rattle.std.proofs.Common.{◌≡◌, ◌≢◌, ℕ, zero, suc, ◌+◌, ◌<◌, ◌≤◌, Bool, true, false, cond, not, nat_eq, List, [], ◌∷◌, ◌++◌, map, filter, count_by, length, drop, replicate, slice_index, codes, refl, sym, ◌∙◌, ap, ap₂, subst, arith, eq-eqb, ne_eqb, eqb-true, append_assoc, append-nil, zero-add}
+use Rattle.std.proofs.Common.{◌≡◌, ◌≢◌, ℕ, zero, suc, ◌+◌, ◌<◌, ◌≤◌, Bool, true, false, cond, not, nat_eq, List, []}
+use Rattle.std.proofs.Common.{◌∷◌, ◌++◌, map, filter, count_by, length, drop, replicate, slice_index, codes, refl}
+use Rattle.std.proofs.Common.{sym, ◌∙◌, ap, ap₂, subst, arith, eq-eqb, ne_eqb, eqb-true, append_assoc, append-nil}
+use Rattle.std.proofs.Common.{zero-add}
 use Rattle.std.specs.List.{AllByRecursion, prefix_len}
 use Rattle.std.proofs.lemmas.Bool.{eqb-false}
 use Rattle.std.proofs.lemmas.List.Sums.{sum_by-cons}
@@ -26,7 +29,8 @@ other p q = not (nat_eq q p)
 keep_below : (p : ℕ) (xs : List ℕ) → Below p xs → filter (λ q. not (nat_eq q p)) xs ≡ xs
 keep_below p [] h = refl
 keep_below p (x ∷ xs) (h, hs) =
-    ap (λ b. cond (not b) (x ∷ filter (λ q. not (nat_eq q p)) xs) (filter (λ q. not (nat_eq q p)) xs)) (ne_eqb x p (λ e. omega arith))
+    ap (λ b. cond (not b) (x ∷ filter (λ q. not (nat_eq q p)) xs) (filter (λ q. not (nat_eq q p)) xs))
+    (ne_eqb x p (λ e. omega arith))
     ∙ ap (λ ys. x ∷ ys) (keep_below p xs hs)
 
 below_filter : (p : ℕ) (t : ℕ → Bool) (xs : List ℕ) → Below p xs → Below p (filter t xs)
@@ -44,7 +48,8 @@ pub distinct-run : (n p : ℕ) (rest : List ℕ) → Below p rest → distinct (
 distinct-run zero p rest h = ap (λ xs. p ∷ xs) (keep_below p (distinct rest) (below_distinct p rest h))
 distinct-run (suc n) p rest h =
     ap (λ xs. p ∷ filter (λ q. not (nat_eq q p)) xs) (distinct-run n p rest h)
-    ∙ ap (λ b. p ∷ cond (not b) (p ∷ filter (λ q. not (nat_eq q p)) (distinct rest)) (filter (λ q. not (nat_eq q p)) (distinct rest))) (eq-eqb p p refl)
+    ∙ ap (λ b. p ∷ cond (not b) (p ∷ filter (λ q. not (nat_eq q p)) (distinct rest))
+    (filter (λ q. not (nat_eq q p)) (distinct rest))) (eq-eqb p p refl)
     ∙ ap (λ xs. p ∷ xs) (keep_below p (distinct rest) (below_distinct p rest h))
 
 -- ---- how often a part occurs
@@ -129,7 +134,8 @@ pub record Splits (p n : ℕ) (parts : List ℕ) : Type 0 where
   pub list : parts ≡ run_on n p (drop n parts)
   pub below : Below p (drop n parts)
 
-pub splits : (p : ℕ) (parts : List ℕ) → IsPartition parts → slice_index parts 0 ≤ p → Splits p (prefix_len (λ q. nat_eq q p) parts) parts
+pub splits : (p : ℕ) (parts : List ℕ) → IsPartition parts → slice_index parts 0 ≤ p →
+    Splits p (prefix_len (λ q. nat_eq q p) parts) parts
 splits p [] h le = record { list = refl; below = tt }
 splits p (x ∷ xs) h le =
     elim (nat_eq x p) as (λ b. nat_eq x p ≡ b → Splits p (cond b (1 + prefix_len (λ q. nat_eq q p) xs) 0) (x ∷ xs)) [
@@ -166,7 +172,8 @@ pub first_run : (parts : List ℕ) → IsHeld parts → 0 < length parts → Fir
 first_run [] h some = absurd (omega arith)
 first_run (p ∷ parts) h some = record {
   text = ap partition_text split.list
-      ∙ some_run (prefix_len (λ q. nat_eq q p) parts) (lead (p ∷ parts)) (drop (lead (p ∷ parts)) (p ∷ parts)) (lead_some p parts) split.below;
+      ∙ some_run (prefix_len (λ q. nat_eq q p) parts) (lead (p ∷ parts)) (drop (lead (p ∷ parts)) (p ∷ parts))
+      (lead_some p parts) split.below;
   rest = drop_held (lead (p ∷ parts)) (p ∷ parts) h;
 }
   where
@@ -176,13 +183,15 @@ first_run (p ∷ parts) h some = record {
     some_run : (m n : ℕ) (rest : List ℕ) → n ≡ suc m → Below p rest →
         partition_text (run_on n p rest) ≡ part_text p n ++ later_text rest
     some_run m n rest e below =
-        subst (λ k. partition_text (run_on k p rest) ≡ part_text p k ++ later_text rest) (sym e) (text-run m p rest below)
+        subst (λ k. partition_text (run_on k p rest) ≡ part_text p k ++ later_text rest) (sym e)
+        (text-run m p rest below)
 
 -- ---- what is written
 
 -- The first run behind a list, and what is left then.
 pub written_first : (old now parts : List ℕ) → IsHeld parts → 0 < length parts →
-    now ≡ old ++ part_text (slice_index parts 0) (lead parts) → now ++ later_text (drop (lead parts) parts) ≡ old ++ partition_text parts
+    now ≡ old ++ part_text (slice_index parts 0) (lead parts) →
+    now ++ later_text (drop (lead parts) parts) ≡ old ++ partition_text parts
 written_first old now parts h some e =
     ap (λ xs. xs ++ later_text (drop (lead parts) parts)) e
     ∙ append_assoc old (part_text (slice_index parts 0) (lead parts)) (later_text (drop (lead parts) parts))
@@ -190,7 +199,8 @@ written_first old now parts h some e =
 
 -- A comma and the next run.
 pub written_next : (old comma now parts : List ℕ) → IsHeld parts → 0 < length parts → comma ≡ old ++ codes "," →
-    now ≡ comma ++ part_text (slice_index parts 0) (lead parts) → now ++ later_text (drop (lead parts) parts) ≡ old ++ later_text parts
+    now ≡ comma ++ part_text (slice_index parts 0) (lead parts) →
+    now ++ later_text (drop (lead parts) parts) ≡ old ++ later_text parts
 written_next old comma now [] h some e f = absurd (omega arith)
 written_next old comma now (p ∷ parts) h some e f =
     written_first comma now (p ∷ parts) h some f ∙ ap (λ xs. xs ++ partition_text (p ∷ parts)) e

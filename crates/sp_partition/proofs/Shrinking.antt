@@ -1,5 +1,7 @@
 -- One node less: the fields.
-use Rattle.std.proofs.Common.{◌≡◌, ℕ, zero, suc, ◌+◌, ◌-◌, ◌<◌, ◌≤◌, true, false, cond, nat_eq, nat_le, List, [], ◌∷◌, ◌++◌, take, length, replicate, slice_index, slice_set, refl, sym, ◌∙◌, ap, ap₂, subst, arith, leb-true, leb-false, eq-eqb, ne_eqb, get_or-set_same, ◌≢◌}
+use Rattle.std.proofs.Common.{◌≡◌, ℕ, zero, suc, ◌+◌, ◌-◌, ◌<◌, ◌≤◌, true, false, cond, nat_eq, nat_le, List, [], ◌∷◌}
+use Rattle.std.proofs.Common.{◌++◌, take, length, replicate, slice_index, slice_set, refl, sym, ◌∙◌, ap, ap₂, subst}
+use Rattle.std.proofs.Common.{arith, leb-true, leb-false, eq-eqb, ne_eqb, get_or-set_same, ◌≢◌}
 use Rattle.std.proofs.lemmas.Bool.Decides.{nat_tests}
 use Rattle.std.proofs.lemmas.List.{get_or_append_left}
 use Rattle.std.proofs.lemmas.List.Sums.{sum_by-cons}
@@ -25,7 +27,8 @@ none_left : (parts : List ℕ) → IsPartition parts → slice_index parts 0 < 1
 none_left [] h lt = refl
 none_left (p ∷ parts) h lt = absurd (omega (arith, IsPartition-head p parts h))
 
-pub degree-shrink : (k : ℕ) (parts : List ℕ) → IsPartition parts → Corner parts k → degree (shrink k parts) + 1 ≡ degree parts
+pub degree-shrink : (k : ℕ) (parts : List ℕ) → IsPartition parts → Corner parts k →
+    degree (shrink k parts) + 1 ≡ degree parts
 unfolding shrink
 degree-shrink k [] h c = absurd (omega arith)
 degree-shrink zero (p ∷ parts) h c =
@@ -83,7 +86,8 @@ set-shrink (suc n) zero (p ∷ parts) h c few =
     empty : p ≤ 1 → parts ≡ []
     empty low = none_left parts (IsPartition-tail p parts h) (omega (arith, c))
 set-shrink (suc n) (suc k) (p ∷ parts) h c few =
-    simp less_one (ap (λ xs. p ∷ xs) (set-shrink n k parts (IsPartition-tail p parts h) (inner p parts k c) (omega arith)))
+    simp less_one
+    (ap (λ xs. p ∷ xs) (set-shrink n k parts (IsPartition-tail p parts h) (inner p parts k c) (omega arith)))
 
 -- ---- the row that shrinks
 
@@ -123,8 +127,10 @@ pub record Shrinks (degree_is left : ℕ) (array now : List ℕ) (row : ℕ) : T
   pub shows : take left (less_at array (row - 1)) ≡ shrink (row - 1) now
   pub held : IsHeld (shrink (row - 1) now)
 
-shrinks_held : (degree_is count left : ℕ) (array now : List ℕ) (row : ℕ) → Holds now degree_is count array → IsHeld now →
-    is_removable now (row, part now row) ≡ true → left ≡ parts_left count (slice_index (less_at array (row - 1)) (row - 1)) →
+shrinks_held : (degree_is count left : ℕ) (array now : List ℕ) (row : ℕ) → Holds now degree_is count array →
+    IsHeld now →
+    is_removable now (row, part now row) ≡ true →
+    left ≡ parts_left count (slice_index (less_at array (row - 1)) (row - 1)) →
     Shrinks degree_is left array now row
 shrinks_held degree_is count left array now row is h removes counted = record {
   padded = holds_padded (shrink (row - 1) now) _ _ _ held holds;
@@ -167,8 +173,10 @@ shrinks_held degree_is count left array now row is h removes counted = record {
           ∙ set-shrink CAPACITY (row - 1) now h.partition corner (few_parts now h);
     }
 
-pub shrinks : (degree_is count left : ℕ) (array now : List ℕ) (row : ℕ) → IsPadded degree_is count array → take count array ≡ now →
-    true ≡ is_removable now (row, part now row) → left ≡ parts_left count (slice_index (less_at array (row - 1)) (row - 1)) →
+pub shrinks : (degree_is count left : ℕ) (array now : List ℕ) (row : ℕ) → IsPadded degree_is count array →
+    take count array ≡ now →
+    true ≡ is_removable now (row, part now row) →
+    left ≡ parts_left count (slice_index (less_at array (row - 1)) (row - 1)) →
     Shrinks degree_is left array now row
 shrinks degree_is count left array now row is shows removes counted =
     shrinks_held degree_is count left array now row

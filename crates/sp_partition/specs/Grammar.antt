@@ -11,7 +11,8 @@ pub record IsNumber (text : List ℕ) (n : ℕ) : Type 0 where
 -- An item stands for m parts p: it is the part alone, or the part, `^` and m, which is at least 2.
 pub data IsItem : List ℕ → ℕ → ℕ → Type 0 where
   once : (text : List ℕ) (p : ℕ) → IsNumber text p → IsItem text p 1
-  often : (base exponent : List ℕ) (p m : ℕ) → IsNumber base p → IsNumber exponent m → 2 ≤ m → IsItem (base ++ (codes "^" ++ exponent)) p m
+  often : (base exponent : List ℕ) (p m : ℕ) → IsNumber base p → IsNumber exponent m → 2 ≤ m →
+      IsItem (base ++ (codes "^" ++ exponent)) p m
 
 -- Items with commas between, each of a lesser part than the one before.
 pub data IsList : List ℕ → List ℕ → Type 0 where

@@ -4,3 +4,4 @@ pub mod OrderLaws
 pub mod Runs
 pub mod Grammar
 pub mod Pieces
+pub mod Nodes

@@ -4,10 +4,12 @@ use Rattle.std.proofs.Common.{◌∙◌, ap}
 use Rattle.std.specs.Ordering.{nat_cmp, is_eq, ordering_then, as_partial_cmp}
 use Rattle.std.specs.declared.cmp.Ordering.{Ordering}
 use Rattle.std.specs.declared.cmp.Ordering.TheVariants.{Less, Equal, Greater}
-use Rattle.std.specs.Cmp.{IsPartialEquivalence, IsEquivalence, IsPartialOrder, IsTotalOrder, both_ways, partial_equiv_from_equiv, partial_order_from_agreeing_total}
+use Rattle.std.specs.Cmp.{IsPartialEquivalence, IsEquivalence, IsPartialOrder, IsTotalOrder, both_ways}
+use Rattle.std.specs.Cmp.{partial_equiv_from_equiv, partial_order_from_agreeing_total}
 use Rattle.std.specs.Cmp.Lexicographic.{pointwise, bytes_decides}
 use Rattle.std.specs.FinMap.{slice_cmp-IsAntisymmetric, nat_cmp-IsAntisymmetric}
-use Rattle.std.proofs.lemmas.Cmp.{nat_cmp_total, nat_list_cmp_total, nat_list_eq_equiv, on_total, then_total, tied_itself}
+use Rattle.std.proofs.lemmas.Cmp.{nat_cmp_total, nat_list_cmp_total, nat_list_eq_equiv, on_total, then_total}
+use Rattle.std.proofs.lemmas.Cmp.{tied_itself}
 use Rattle.sp_defs.specs.Partition.{degree, compare, order}
 
 -- ---- what the answers say
@@ -19,7 +21,8 @@ pub lists_equal : (first second : List ℕ) → first ≡ second → pointwise n
 lists_equal first second = (bytes_decides first second).1
 
 pub order_equal : (first second : List ℕ) → order first second ≡ Equal → first ≡ second
-order_equal first second h = slice_cmp-IsAntisymmetric nat_cmp-IsAntisymmetric first second (later (nat_cmp (degree first) (degree second)) h)
+order_equal first second h = slice_cmp-IsAntisymmetric nat_cmp-IsAntisymmetric first second
+    (later (nat_cmp (degree first) (degree second)) h)
   where
     later : (o : Ordering) → ordering_then o (compare first second) ≡ Equal → compare first second ≡ Equal
     later Less h = cc
@@ -27,7 +30,8 @@ order_equal first second h = slice_cmp-IsAntisymmetric nat_cmp-IsAntisymmetric f
     later Greater h = cc
 
 -- Among partitions of one degree the order is the lexicographic one.
-pub order_one_degree : (first second : List ℕ) → degree first ≡ degree second → order first second ≡ compare first second
+pub order_one_degree : (first second : List ℕ) → degree first ≡ degree second →
+    order first second ≡ compare first second
 order_one_degree first second e =
     ap (λ o. ordering_then o (compare first second))
     (ap (λ n. nat_cmp n (degree second)) e ∙ tied_itself nat_cmp_total (degree second))

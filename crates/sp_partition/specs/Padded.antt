@@ -27,10 +27,10 @@ padded-array degree count array is =
     ap (λ k. take count array ++ replicate (CAPACITY - k) 0) (padded-count degree count array is) ∙ sym is.zeros
 
 -- A record of these three fields is known by its parts.
-pub fields_back : {R : Type 0} (make : ℕ → List ℕ → ℕ → R) (degree count : ℕ) (array : List ℕ) →
+pub rebuilt : {R : Type 0} (make : ℕ → List ℕ → ℕ → R) (degree count : ℕ) (array : List ℕ) →
     IsPadded degree count array →
     (let parts = take count array in make (sum parts) (padded parts) (length parts)) ≡ make degree array count
-fields_back make degree count array is =
+rebuilt make degree count array is =
     let parts = take count array in
     ap (λ d. make d (padded parts) (length parts)) (sym is.total)
     ∙ ap (λ ps. make degree ps (length parts)) (padded-array degree count array is)

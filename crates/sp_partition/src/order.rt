@@ -3,7 +3,8 @@ ghost use Rattle.std.specs.Prelude.{nat_eq};
 ghost use Rattle.std.specs.Ordering.{as_partial_cmp};
 ghost use Rattle.std.specs.Cmp.Lexicographic.{pointwise};
 ghost use Rattle.sp_defs.specs.Partition.{order};
-ghost use Rattle.sp_partition.specs.OrderLaws.{parts_equivalence, order_total, order_matches_eq, order_agrees, order_laws, eq_laws};
+ghost use Rattle.sp_partition.specs.OrderLaws.{parts_equivalence, order_total, order_matches_eq, order_agrees};
+ghost use Rattle.sp_partition.specs.OrderLaws.{order_laws, eq_laws};
 
 use crate::Partition;
 use std::cmp::Ordering;

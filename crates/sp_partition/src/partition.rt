@@ -1,9 +1,11 @@
 // A partition is a fixed array of parts, seen as its list.
-ghost use Rattle.std.specs.Prelude.{◌≡◌, ◌≢◌, ◌↔◌, ℕ, ◌+◌, ◌-◌, ◌*◌, ◌<◌, ◌≤◌, ◌++◌, [], replicate, IfOk, IfSome, IsTrue, SomeIff, length, slice_index, sum};
+ghost use Rattle.std.specs.Prelude.{◌≡◌, ◌↔◌, ℕ, ◌+◌, ◌-◌, ◌*◌, ◌<◌, ◌≤◌, ◌++◌, [], replicate, IfOk, IfSome};
+ghost use Rattle.std.specs.Prelude.{IsTrue, SomeIff, length, sum};
 ghost use Rattle.sp_defs.specs.Partition.{degree as degree_of, part as part_of, IsPartition, is_regular as regular};
 ghost use Rattle.sp_defs.specs.Node.{is_addable, is_removable};
 ghost use Rattle.sp_defs.specs.Signature.{grow, shrink};
-ghost use Rattle.sp_partition.specs.Held.{IsHeld};
+ghost use Rattle.sp_partition.specs.Held.{IsHeld, IsPast};
+ghost use Rattle.sp_partition.specs.Nodes.{CanAdd, CanRemove, Differ};
 ghost use Rattle.sp_partition.specs.Padded.{padded as padded_parts};
 
 use crate::CAPACITY;
@@ -30,9 +32,9 @@ impl Model for Partition {
 
     ghost inverse = { λ xs. record { degree = sum xs; count = length xs; parts = padded xs } };
 
-    ghost use Rattle.sp_partition.specs.Padded.{fields_back};
+    ghost use Rattle.sp_partition.specs.Padded.{rebuilt};
 
-    ghost inverse_ok = { λ a. fields_back (λ d ps c. record { degree = d; parts = ps; count = c }) a.degree a.count a.parts };
+    ghost inverse_ok = { λ a. rebuilt (λ d p c. record { degree = d; parts = p; count = c }) a.degree a.count a.parts };
 }
 
 /// Why a list of parts, or a text, is no `Partition`.
@@ -71,7 +73,7 @@ impl Partition {
         ensures ok { IfOk result (λ p. p ≡ parts.now) }
         ensures held { IsHeld parts.now ↔ (result ≡ Ok parts.now) }
         ensures shape { (result ≡ Err NotPartition.Shape) ↔ ¬ IsPartition parts.now }
-        ensures past { (result ≡ Err NotPartition.PastCapacity) ↔ (IsPartition parts.now × (CAPACITY < degree_of parts.now)) }
+        ensures past { (result ≡ Err NotPartition.PastCapacity) ↔ IsPast parts.now }
     {
         if !falls(parts) {
             return Err(NotPartition::Shape);
@@ -114,7 +116,9 @@ impl Partition {
     ///
     /// None where the row has no addable node, or the degree is `CAPACITY`.
     pub fn add_node(&self, row: u8) -> Option<Partition>
-        ensures node { SomeIff result (IsTrue (is_addable self.now (row, part_of self.now row + 1)) × (degree_of self.now < CAPACITY)) (grow (row - 1) self.now) }
+        ensures node { SomeIff result
+            (CanAdd row self.now)
+            (grow (row - 1) self.now) }
         ensures held { IfSome result IsHeld }
     {
         if self.degree == CAPACITY || !self.can_grow(row) {
@@ -129,7 +133,7 @@ impl Partition {
 
     /// The partition with one node less in this row, counted from 1. None where the row has no removable node.
     pub fn remove_node(&self, row: u8) -> Option<Partition>
-        ensures node { SomeIff result (IsTrue (is_removable self.now (row, part_of self.now row))) (shrink (row - 1) self.now) }
+        ensures node { SomeIff result (CanRemove row self.now) (shrink (row - 1) self.now) }
         ensures held { IfSome result IsHeld }
     {
         if !self.can_shrink(row) {
@@ -231,7 +235,8 @@ fn padded(parts: &[u8]) -> [u8; 32]
 
 // Whether no two parts that stand so many places apart are equal.
 fn differ(parts: &[u8], gap: usize) -> bool
-    ensures { IsTrue result ↔ ((k : ℕ) → k + gap < length parts.now → slice_index parts.now k ≢ slice_index parts.now (k + gap)) }
+    ensures { IsTrue result
+        ↔ Differ gap parts.now }
 {
     parts
         .iter()

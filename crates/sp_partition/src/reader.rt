@@ -1,11 +1,12 @@
 // Reads the canonical text of a partition.
-ghost use Rattle.std.specs.Prelude.{◌≡◌, ◌↔◌, ℕ, ◌+◌, ◌*◌, ◌<◌, ◌≤◌, ◌++◌, List, length, min, take, replicate, slice_index, ◌≢◌, IfOk, IfSome, IsNone, IsTrue, MatchOption, SomeIff};
+ghost use Rattle.std.specs.Prelude.{◌≡◌, ◌↔◌, ℕ, ◌+◌, ◌*◌, ◌<◌, ◌≤◌, List, length, min};
+ghost use Rattle.std.specs.Prelude.{IfOk, IfSome, IsNone, IsTrue};
 ghost use Rattle.std.specs.Option.{option_copied};
 ghost use Rattle.std.specs.Str.Parse.{digits_value};
-ghost use Rattle.sp_defs.specs.Partition.{degree as degree_of, IsPartition};
+ghost use Rattle.sp_defs.specs.Partition.{degree as degree_of};
 ghost use Rattle.sp_defs.specs.Text.{partition_text};
 ghost use Rattle.sp_partition.specs.Grammar.{IsNumber, IsItem, IsList, IsReadAs};
-ghost use Rattle.sp_partition.specs.Pieces.{StandsAt, IsItemOf, ReadsTo, rest_of};
+ghost use Rattle.sp_partition.specs.Pieces.{StandsAt, IsItemOf, IsReadPast, DigitsAt, MayAdd, Adds, ReadsTo, rest_of};
 ghost use Rattle.sp_partition.specs.Held.{IsHeld};
 
 use crate::{CAPACITY, NotPartition, Partition};
@@ -24,7 +25,7 @@ impl Partition {
     pub fn parse(text: &[u8]) -> Result<Partition, NotPartition>
         ensures ok { IfOk result (λ p. IsReadAs text.now p × IsHeld p) }
         ensures held { (p : List ℕ) → IsReadAs text.now p → degree_of p ≤ CAPACITY → result ≡ Ok p }
-        ensures past { (result ≡ Err NotPartition.PastCapacity) ↔ ((p : List ℕ) × IsReadAs text.now p × (CAPACITY < degree_of p)) }
+        ensures past { (result ≡ Err NotPartition.PastCapacity) ↔ IsReadPast text.now }
         ensures shape { (result ≡ Err NotPartition.Shape) ↔ ((p : List ℕ) → ¬ IsReadAs text.now p) }
         ensures canonical { (p : List ℕ) → IsHeld p → (result ≡ Ok p) ↔ (text.now ≡ partition_text p) }
     {
@@ -65,8 +66,8 @@ fn read_list(text: &[u8]) -> Result<Partition, NotPartition>
 // The parts so far with those of the item, where there is room.
 fn extended(held: Option<Partition>, item: Item) -> Option<Partition>
     requires number { IsNumber item.part.now (digits_value 10 item.part.now) }
-    requires falls { IfSome held (λ p. degree_of p + item.times * min (digits_value 10 item.part.now) 255 ≤ CAPACITY → IsPartition (p ++ replicate item.times (min (digits_value 10 item.part.now) 255))) }
-    ensures { MatchOption held (result ≡ None) (λ p. SomeIff result (degree_of p + item.entry.times * min (digits_value 10 item.entry.part.now) 255 ≤ CAPACITY) (p ++ replicate item.entry.times (min (digits_value 10 item.entry.part.now) 255))) }
+    requires falls { IfSome held (MayAdd (min (digits_value 10 item.part.now) 255) item.times) }
+    ensures { Adds held (min (digits_value 10 item.entry.part.now) 255) item.entry.times result }
 {
     held?.with_run(value(item.part), item.times)
 }
@@ -135,7 +136,7 @@ fn is_number(text: &[u8]) -> bool
 }
 
 fn are_digits(text: &[u8]) -> bool
-    ensures { IsTrue result ↔ ((k : ℕ) → k < length text.now → (48 ≤ slice_index text.now k) × (slice_index text.now k ≤ 57)) }
+    ensures { IsTrue result ↔ DigitsAt text.now }
 {
     text.iter().all(|byte| b'0' <= *byte && *byte <= b'9')
 }

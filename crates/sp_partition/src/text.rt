@@ -1,9 +1,9 @@
 // The canonical text of a partition.
-ghost use Rattle.std.specs.Prelude.{◌≡◌, ◌<◌, ◌≤◌, ◌++◌, length, take, drop, slice_index, IfOk, OnOk, OnErr};
+ghost use Rattle.std.specs.Prelude.{◌≡◌, ◌<◌, ◌≤◌, ◌++◌, length, take, drop, IfOk, OnOk, OnErr};
 ghost use Rattle.std.specs.Fmt.{decimal};
 ghost use Rattle.sp_partition.specs.Held.{IsHeld};
-ghost use Rattle.sp_partition.specs.Runs.{lead as lead_of};
-ghost use Rattle.sp_defs.specs.Text.{part_text, partition_text};
+ghost use Rattle.sp_partition.specs.Runs.{lead as lead_of, lead_text};
+ghost use Rattle.sp_defs.specs.Text.{partition_text};
 
 use crate::Partition;
 use itoa::Buffer;
@@ -46,7 +46,7 @@ fn put_parts(out: &mut Vec<u8>, parts: &[u8]) -> Result<(), AllocError>
 fn put_run<'a>(out: &mut Vec<u8>, parts: &'a [u8]) -> Result<&'a [u8], AllocError>
     requires some { 0 < length parts.now }
     requires few { length parts.now < 256 }
-    ensures text { OnOk result (out.new.items ≡ out.old.items ++ part_text (slice_index parts.now 0) (lead_of parts.now)) }
+    ensures text { OnOk result (out.new.items ≡ out.old.items ++ lead_text parts.now) }
     ensures rest { IfOk result (λ rest. rest.now ≡ drop (lead_of parts.now) parts.now) }
     ensures kept { OnErr result (take (length out.old.items) out.new.items ≡ out.old.items) }
 {

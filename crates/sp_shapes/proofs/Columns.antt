@@ -1,6 +1,6 @@
 -- The columns of a diagram.
-use Rattle.std.proofs.Common.{◌≡◌, ℕ, zero, suc, ◌+◌, ◌-◌, ◌<◌, ◌≤◌, true, false, cond, nat_le, List, [], ◌∷◌, length, slice_index}
-use Rattle.std.proofs.Common.{count_by, refl, sym, ◌∙◌, ap, subst, arith, le-leb}
+use Rattle.std.proofs.Common.{◌≡◌, ℕ, zero, suc, ◌+◌, ◌-◌, ◌<◌, ◌≤◌, cond, nat_le, List, [], ◌∷◌, slice_index, count_by}
+use Rattle.std.proofs.Common.{◌∙◌, ap, subst, arith, le-leb}
 use Rattle.std.proofs.lemmas.List.FromFn.{get_or-map-range_with_len}
 use Rattle.std.proofs.lemmas.List.Sums.{sum_by-cons}
 use Rattle.sp_defs.specs.Partition.{part, conjugate, IsPartition}
@@ -13,7 +13,8 @@ abbrev pub column : List ℕ → ℕ → ℕ
 column parts c = count_by (λ p. nat_le c p) parts
 
 pub part-conjugate : (parts : List ℕ) (c : ℕ) → 1 ≤ c → c ≤ part parts 1 → part (conjugate parts) c ≡ column parts c
-part-conjugate parts c lo hi = get_or-map-range_with_len (column parts) 1 (part parts 1) (c - 1) c 0 (omega arith) (omega arith)
+part-conjugate parts c lo hi =
+    get_or-map-range_with_len (column parts) 1 (part parts 1) (c - 1) c 0 (omega arith) (omega arith)
 
 pub first_longest : (parts : List ℕ) (r : ℕ) → IsPartition parts → part parts r ≤ part parts 1
 first_longest parts r h = subst (λ n. slice_index parts n ≤ part parts 1) (omega arith) (descends parts h 0 (r - 1))
@@ -32,7 +33,8 @@ column_past (p ∷ parts) (suc k) c h lo hi =
     let wide : c ≤ p = omega (arith, longest) in
     omega (arith, counts_one c p parts wide, column_past parts k c (IsPartition-tail p parts h) lo hi)
 
-pub column_reaches : (parts : List ℕ) (r c : ℕ) → IsPartition parts → 1 ≤ r → 1 ≤ c → c ≤ part parts r → r ≤ column parts c
+pub column_reaches : (parts : List ℕ) (r c : ℕ) → IsPartition parts → 1 ≤ r → 1 ≤ c → c ≤ part parts r
+    → r ≤ column parts c
 column_reaches parts r c h row lo hi = omega (arith, column_past parts (r - 1) c h lo hi)
 
 pub hook-column : (parts : List ℕ) (r c : ℕ) → IsPartition parts → Inside parts r c

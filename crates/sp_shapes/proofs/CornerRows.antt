@@ -1,12 +1,12 @@
 -- Addable and removable nodes, and marks, row by row.
-use Rattle.std.proofs.Common.{◌≡◌, ◌≢◌, ℕ, zero, suc, ◌+◌, ◌-◌, ◌<◌, ◌≤◌, Bool, true, false, cond, ◌&&◌, not, nat_le, nat_eq}
-use Rattle.std.proofs.Common.{List, [], ◌∷◌, ◌++◌, map, filter, flat_map, length, slice_index, refl, sym, ◌∙◌, ap, ap₂, subst, arith, add-one}
+use Rattle.std.proofs.Common.{◌≡◌, ℕ, zero, suc, ◌+◌, ◌<◌, ◌≤◌, Bool, true, false, cond, List, [], ◌∷◌, ◌++◌, map}
+use Rattle.std.proofs.Common.{filter, flat_map, length, slice_index, refl, sym, ◌∙◌, ap, ap₂, arith, add-one}
 use Rattle.std.specs.List.{AllByRecursion, range_with_len}
 use Rattle.std.proofs.lemmas.Bool.Decides.{nat_tests}
 use Rattle.std.proofs.lemmas.List.Concat.{flat_map-cons}
 use Rattle.std.proofs.lemmas.List.FromFn.{map-range_with_len_more}
 use Rattle.sp_defs.specs.Partition.{part, from_one_to}
-use Rattle.sp_defs.specs.Node.{Node, in_diagram, is_removable, nodes_from, nodes, removable}
+use Rattle.sp_defs.specs.Node.{Node, is_removable, nodes_from, nodes, removable}
 use Rattle.sp_lists.proofs.Elements.{filter_append, all_map, range_all}
 
 cond_append : {X : Type 0} (b : Bool) (x : X) (xs : List X) → cond b (x ∷ []) [] ++ xs ≡ cond b (x ∷ xs) xs
@@ -27,7 +27,8 @@ no_column : (parts : List ℕ) (r : ℕ) → is_removable parts (r, 0) ≡ false
 no_column parts r = grind (arith, nat_tests)
 
 row_end : (parts : List ℕ) (r n : ℕ) → 1 ≤ r → n ≡ part parts r
-    → filter (is_removable parts) (map (λ c. (r, c)) (from_one_to n)) ≡ cond (is_removable parts (r, n)) ((r, n) ∷ []) []
+    → filter (is_removable parts) (map (λ c. (r, c)) (from_one_to n))
+    ≡ cond (is_removable parts (r, n)) ((r, n) ∷ []) []
 row_end parts r zero row is = ap (λ b. cond b ((r, 0) ∷ []) []) (sym (no_column parts r))
 row_end parts r (suc n) row is =
     ap (λ m. filter (is_removable parts) (map (λ c. (r, c)) (from_one_to m))) (sym (add-one n))
@@ -36,7 +37,9 @@ row_end parts r (suc n) row is =
     ∙ ap (λ xs. xs ++ filter (is_removable parts) ((r, suc n) ∷ [])) before
   where
     before : filter (is_removable parts) (map (λ c. (r, c)) (from_one_to n)) ≡ []
-    before = filter_none (is_removable parts) _ (all_map _ _ _ (range_all _ 1 n (λ c lo hi. inner_stays parts r c row (omega arith))))
+    before =
+        filter_none (is_removable parts) _
+        (all_map _ _ _ (range_all _ 1 n (λ c lo hi. inner_stays parts r c row (omega arith))))
 
 -- The removable nodes among the last ones of n rows from row r on.
 abbrev lasts_from : List ℕ → ℕ → ℕ → List Node
@@ -53,8 +56,8 @@ removable_from parts r (p ∷ rest) row is =
     ∙ ap₂ (λ x y. x ++ y) (row_end parts r p row here)
     (removable_from parts (suc r) rest (omega arith) (λ k lt. is (suc k) (omega arith) ∙ ap (part parts) (omega arith)))
     ∙ cond_append (is_removable parts (r, p)) (r, p) (lasts_from parts (suc r) (length rest))
-    ∙ ap₂ (λ q next. cond (is_removable parts (r, q)) ((r, q) ∷ lasts_from parts next (length rest)) (lasts_from parts next (length rest)))
-    here (sym (add-one r))
+    ∙ ap₂ (λ q later. cond (is_removable parts (r, q)) ((r, q) ∷ later) later)
+    here (ap (λ next. lasts_from parts next (length rest)) (sym (add-one r)))
   where
     here : p ≡ part parts r
     here = is 0 (omega arith) ∙ ap (part parts) (omega arith)
@@ -68,7 +71,8 @@ removable-rows parts = removable_from parts 1 parts (omega arith) (λ k lt. ap (
 
 nodes_rows_from : (parts : List ℕ) (r : ℕ) (rest : List ℕ)
     → ((k : ℕ) → k < length rest → slice_index rest k ≡ part parts (r + k))
-    → nodes_from r rest ≡ flat_map (λ q. map (λ c. (q, c)) (from_one_to (part parts q))) (range_with_len r (length rest))
+    → nodes_from r rest
+    ≡ flat_map (λ q. map (λ c. (q, c)) (from_one_to (part parts q))) (range_with_len r (length rest))
 unfolding nodes_from
 nodes_rows_from parts r [] is = refl
 nodes_rows_from parts r (p ∷ rest) is =

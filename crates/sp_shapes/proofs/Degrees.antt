@@ -8,4 +8,5 @@ use Rattle.sp_shapes.proofs.Diagram.{IsPartition-tail, IsPartition-head}
 pub length-degree : (parts : List ℕ) → IsPartition parts → length parts ≤ degree parts
 length-degree [] h = omega arith
 length-degree (p ∷ parts) h =
-    omega (arith, sum_by-cons (λ x. x) p parts, IsPartition-head p parts h, length-degree parts (IsPartition-tail p parts h))
+    omega (arith, sum_by-cons (λ x. x) p parts, IsPartition-head p parts h, length-degree parts
+        (IsPartition-tail p parts h))

@@ -1,5 +1,5 @@
-use Rattle.std.proofs.Common.{◌≡◌, ◌∙◌, ◌++◌, ap, pos, sym, get_or, take, drop, length, ◌-◌}
-use Rattle.sp_laurent.proofs.Texts.{no_text, written_none, written_grown, written_more, written_all}
+use Rattle.std.proofs.Common.{◌∙◌, ◌++◌, ap, pos, sym}
+use Rattle.sp_laurent.proofs.Texts.{no_text, written_all}
 use Rattle.sp_laurent.proofs.text.print_terms.Goals as goal
 
 pub returns-in_default-clause-ok : goal.returns-in_default-clause-ok

@@ -7,7 +7,8 @@ use Rattle.sp_nodes.proofs.corners.marks.Goals as goal
 
 pub loop-row-preserved : goal.loop-row-preserved
 loop-row-preserved c =
-    walked_row mark_of (row_marks c.args.e c.args.i c.args.p.now) c.loop-row.found.items c.push_if_some.new.found.items c.loop-row.row
+    walked_row mark_of (row_marks c.args.e c.args.i c.args.p.now)
+    c.loop-row.found.items c.push_if_some.new.found.items c.loop-row.row
     c.mark_in_row.result (omega arith) c.mark_in_row.ensures c.push_if_some.ensures c.loop-row.invariant
 
 pub returns : goal.returns

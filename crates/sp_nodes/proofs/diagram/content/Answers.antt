@@ -1,4 +1,4 @@
-use Rattle.std.proofs.Common.{◌++◌, [], ◌∷◌, map, sym, ◌∙◌, ap₂, arith}
+use Rattle.std.proofs.Common.{◌++◌, [], ◌∷◌, sym, ◌∙◌, ap₂, arith}
 use Rattle.std.proofs.lemmas.List.FromFn.{map-range_with_len_more}
 use Rattle.sp_defs.specs.Node.{content}
 use Rattle.sp_nodes.proofs.diagram.content.Goals as goal

@@ -6,5 +6,5 @@ use Rattle.sp_nodes.proofs.diagram.content.Given as goal
 abbrev pub invariant-loop-i : goal.invariant-loop-i
 invariant-loop-i l = record {
   is : l.listed.items ≡ map (content l.e l.p) (range_with_len 0 l.i);
-  len : length l.listed.items ≡ l.i
+  len : length l.listed.items ≡ l.i;
 }

@@ -9,14 +9,14 @@ overflow_sub-below c =
     let row = c.args.node.row in
     let node = node_in c.args.p.now row c.args.node.column c.requires in
     let reaches : row ≤ column c.args.p.now c.args.node.column =
-        column_reaches c.args.p.now row c.args.node.column c.column_length.ensures.partition node.row node.column node.within in
+    column_reaches c.args.p.now row c.args.node.column c.column_length.ensures.partition
+    node.row node.column node.within in
     omega (arith, reaches, c.column_length.ensures.value)
 
 pub returns : goal.returns
 returns c =
     let row = c.args.node.row in
     let node = node_in c.args.p.now row c.args.node.column c.requires in
-    record {
-      value = ap₂ (λ right below. (right - c.args.node.column) + (below - row) + 1) c.row_length.ensures.value c.column_length.ensures.value
-          ∙ sym (hook-column c.args.p.now row c.args.node.column c.column_length.ensures.partition node);
-    }
+    ap₂ (λ right below. (right - c.args.node.column) + (below - row) + 1)
+    c.row_length.ensures.value c.column_length.ensures.value
+    ∙ sym (hook-column c.args.p.now row c.args.node.column c.column_length.ensures.partition node)

@@ -6,9 +6,9 @@ pub push_row-requires-clause-room : goal.push_row-requires-clause-room
 push_row-requires-clause-room c =
     omega (
       arith,
-      listed_room c.args.p.now c.loop-row.found.items c.loop-row.row c.row_count-row-end.ensures.held (omega arith) (omega arith)
-      c.loop-row.invariant,
-      c.row_length.ensures.value
+      listed_room c.args.p.now c.loop-row.found.items c.loop-row.row c.row_count-row-end.ensures.held
+          (omega arith) (omega arith) c.loop-row.invariant,
+      c.row_length.ensures.value,
     )
 
 pub loop-row-preserved : goal.loop-row-preserved
@@ -18,4 +18,5 @@ loop-row-preserved c =
     c.push_row.ensures.places c.loop-row.invariant
 
 pub returns-clause-nodes : goal.returns-clause-nodes
-returns-clause-nodes c = listed_all c.args.p.now c.loop-row.found.items c.loop-row.row (omega arith) c.loop-row.invariant
+returns-clause-nodes c =
+    listed_all c.args.p.now c.loop-row.found.items c.loop-row.row (omega arith) c.loop-row.invariant

@@ -9,6 +9,11 @@ pub returns-then-text-ne48 : goal.returns-then-text-ne48
 returns-then-text-ne48 c =
     let some : 0 < length c.args.text.now = grind (arith, common_steps) in
     let first : slice_index c.args.text.now 0 ≢ 48 = grind (arith, nat_tests) in (
-      (λ t. record { digits = (some, all_digits c.args.text.now (c.are_digits.ensures.0 t)); first = first; value = refl }),
+      (λ t. record {
+        digits =
+            (some, all_digits c.args.text.now (c.are_digits.ensures.0 t));
+        first = first;
+        value = refl;
+      }),
       λ h. c.are_digits.ensures.1 (λ k lt. digit_at c.args.text.now k h.digits.1 lt),
     )

@@ -12,15 +12,18 @@ returns-then-end-text-clause-item c = item_once _ _ _ (omega arith) (c.if-not-is
 
 pub returns-then-not-is_number-2-clause-none : goal.returns-then-not-is_number-2-clause-none
 returns-then-not-is_number-2-clause-none c = λ _ p m item.
-    let power = item_exponent _ _ p m _ c.place-end.ensures (omega (arith, c.place-end.ensures.within)) (rest_whole c.args.text.now (c.place-end.result + 1)) item in
+    let power = item_exponent _ _ p m _ c.place-end.ensures (omega (arith, c.place-end.ensures.within))
+    (rest_whole c.args.text.now (c.place-end.result + 1)) item in
     true≢false (sym (c.if-not-is_number-2.ensures.1 (number_self _ m power.count)))
 
 pub returns-then-times-lt2-clause-none : goal.returns-then-times-lt2-clause-none
 returns-then-times-lt2-clause-none c = λ _ p m item.
-    let power = item_exponent _ _ p m _ c.place-end.ensures (omega (arith, c.place-end.ensures.within)) (rest_whole c.args.text.now (c.place-end.result + 1)) item in
+    let power = item_exponent _ _ p m _ c.place-end.ensures (omega (arith, c.place-end.ensures.within))
+    (rest_whole c.args.text.now (c.place-end.result + 1)) item in
     absurd (omega (arith, power.count.value, power.two, c.value-times.ensures, c.if-times-lt2.true))
 
 pub returns-clause-item : goal.returns-clause-item
 returns-clause-item c =
-    item_often _ _ _ _ _ _ c.place-end.ensures (omega (arith, c.place-end.ensures.within)) (rest_whole c.args.text.now (c.place-end.result + 1))
+    item_often _ _ _ _ _ _ c.place-end.ensures (omega (arith, c.place-end.ensures.within))
+    (rest_whole c.args.text.now (c.place-end.result + 1))
     (c.if-not-is_number.ensures.0 refl) (c.if-not-is_number-2.ensures.0 refl) c.value-times.ensures c.if-times-lt2.false

@@ -3,9 +3,11 @@ use Rattle.sp_partition.proofs.Numbers.{next_value}
 use Rattle.sp_partition.proofs.reader.value.Goals as goal
 
 pub overflow_sub-digit : goal.overflow_sub-digit
-overflow_sub-digit c = (digit_at c.args.digits.now c.loop-digit.digit-index c.requires.digits.1 c.loop-digit-test.true).0
+overflow_sub-digit c =
+    (digit_at c.args.digits.now c.loop-digit.digit-index c.requires.digits.1 c.loop-digit-test.true).0
 
 pub loop-digit-preserved : goal.loop-digit-preserved
 loop-digit-preserved c =
-    next_value c.args.digits.now c.loop-digit.digit-index c.loop-digit.value _ _ c.requires.digits.1 c.loop-digit-test.true
+    next_value c.args.digits.now c.loop-digit.digit-index c.loop-digit.value _ _
+    c.requires.digits.1 c.loop-digit-test.true
     c.loop-digit.invariant c.saturating_mul.ensures c.saturating_add-value.ensures

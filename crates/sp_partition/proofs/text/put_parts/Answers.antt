@@ -8,7 +8,8 @@ use Rattle.sp_partition.proofs.text.put_parts.Goals as goal
 
 pub returns-then-is_empty-clause-text : goal.returns-then-is_empty-clause-text
 unfolding partition_text
-returns-then-is_empty-clause-text c = let none : c.args.parts.now ≡ [] = grind (arith, common_steps) in rw none c.in_ok-push.ensures.items
+returns-then-is_empty-clause-text c = let none : c.args.parts.now ≡ [] = grind (arith, common_steps) in
+    rw none c.in_ok-push.ensures.items
 
 pub put_run-requires-clause-few : goal.put_run-requires-clause-few
 put_run-requires-clause-few c = omega (arith, few_parts c.args.parts.now c.requires)
@@ -18,7 +19,8 @@ loop-rest-init c =
     let some : 0 < length c.args.parts.now = grind (arith, common_steps) in
     record {
       held = rw c.in_ok-rest.ensures.rest (first_run c.args.parts.now c.requires some).rest;
-      text = rw c.in_ok-rest.ensures.rest (written_first _ _ c.args.parts.now c.requires some c.in_ok-rest.ensures.text);
+      text = rw c.in_ok-rest.ensures.rest
+          (written_first _ _ c.args.parts.now c.requires some c.in_ok-rest.ensures.text);
       kept = rw c.in_ok-rest.ensures.text (kept_append _ _);
     }
 
@@ -30,12 +32,16 @@ loop-rest-preserved c =
     let some : 0 < length c.loop-rest.rest.now = grind (arith, common_steps) in
     record {
       held = rw c.in_ok-rest-2.ensures.rest (first_run c.loop-rest.rest.now c.loop-rest.invariant.held some).rest;
-      text = rw c.in_ok-rest-2.ensures.rest (written_next _ _ _ c.loop-rest.rest.now c.loop-rest.invariant.held some c.in_ok-push-2.ensures.items c.in_ok-rest-2.ensures.text ∙ c.loop-rest.invariant.text);
-      kept = kept_more _ _ _ _ (kept_more _ _ _ _ c.loop-rest.invariant.kept c.in_ok-push-2.ensures.items) c.in_ok-rest-2.ensures.text;
+      text = rw c.in_ok-rest-2.ensures.rest
+          (written_next _ _ _ c.loop-rest.rest.now c.loop-rest.invariant.held some
+          c.in_ok-push-2.ensures.items c.in_ok-rest-2.ensures.text ∙ c.loop-rest.invariant.text);
+      kept = kept_more _ _ _ _
+          (kept_more _ _ _ _ c.loop-rest.invariant.kept c.in_ok-push-2.ensures.items) c.in_ok-rest-2.ensures.text;
     }
 
 pub returns-in_err-rest-2-clause-kept : goal.returns-in_err-rest-2-clause-kept
 returns-in_err-rest-2-clause-kept c =
     let kept : take (length c.args.out.now.items) c.put_run-in-loop-rest.new.out.items ≡ c.args.out.now.items =
-    kept_on _ _ _ (kept_more _ _ _ _ c.loop-rest.invariant.kept c.in_ok-push-2.ensures.items) c.in_err-rest-2.ensures.kept in
+    kept_on _ _ _
+    (kept_more _ _ _ _ c.loop-rest.invariant.kept c.in_ok-push-2.ensures.items) c.in_err-rest-2.ensures.kept in
     search rules

@@ -49,7 +49,8 @@ loop-end-preserved g c =
     let next : List ℕ = take (length rest - (i + 1)) (drop (i + 1) rest) in
     let next_is : next ≡ drop (i + 1) rest = grind (arith, common_steps) in
     let rest_is : rest ≡ line ++ next =
-    found.1 ∙ ap (λ t. take i rest ++ NEWLINE ∷ t) (sym next_is) ∙ sym (append_assoc (take i rest) (NEWLINE ∷ []) next) in
+    found.1 ∙ ap (λ t. take i rest ++ NEWLINE ∷ t) (sym next_is) ∙
+    sym (append_assoc (take i rest) (NEWLINE ∷ []) next) in
     record {
       same = c.in_ok-end_line.ensures.same ∙ at.same;
       seen = (

@@ -15,7 +15,8 @@ returns-in-Ok-clause-none c =
     let same : es ≡ v.entries = c.deref.ensures.value ∙ ap (λ x. x.entries) c.self.view_is in
     let found : IsBinarySearchResult (λ t. order t.0 c.args.p.now) es (Ok c.in-Ok.place) =
     c.in-Ok.ensures.position (λ t. order t.0 c.args.p.now) (always_returns_same _ _ _ (λ a r g called. search rules)) in
-    let nonzero = found_nonzero v held es same c.args.p.now c.in-Ok.place c.index.result.now c.in-Ok.ensures.bound found in
+    let nonzero =
+    found_nonzero v held es same c.args.p.now c.in-Ok.place c.index.result.now c.in-Ok.ensures.bound found in
     ((λ none. cc), (λ e. absurd (nonzero e)))
 
 pub returns-in-Ok-clause-some : goal.returns-in-Ok-clause-some

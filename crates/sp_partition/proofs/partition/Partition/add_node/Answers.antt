@@ -10,7 +10,8 @@ pub bounds-grown-inside-row-2 : goal.bounds-grown-inside-row-2
 bounds-grown-inside-row-2 c =
     (grows _ _ _ _ _ c.self.invariant c.self.view_is c.if-not-can_grow.ensures c.if-self-eq-CAPACITY.false).place
 
-grown : (c : goal.After-max) → Grows c.self.inside.degree c.self.inside.count c.self.inside.parts c.args.self.now c.args.row
+grown : (c : goal.After-max) →
+    Grows c.self.inside.degree c.self.inside.count c.self.inside.parts c.args.self.now c.args.row
 grown c = grows _ _ _ _ _ c.self.invariant c.self.view_is c.if-not-can_grow.ensures c.if-self-eq-CAPACITY.false
 
 pub invariant_of-result : goal.invariant_of-result

@@ -3,7 +3,9 @@ use Rattle.sp_partition.proofs.Extending.{extends}
 use Rattle.sp_partition.proofs.partition.Partition.with_run.Goals as goal
 
 pub slice_bounds-fill-end : goal.slice_bounds-fill-end
-slice_bounds-fill-end c = let few = (extends _ _ _ _ c.args.part c.args.times c.self.invariant c.self.view_is c.if-degree.false c.requires).few in omega (arith, c.self.invariant.size)
+slice_bounds-fill-end c = let few =
+    (extends _ _ _ _ c.args.part c.args.times c.self.invariant c.self.view_is c.if-degree.false c.requires).few in
+    omega (arith, c.self.invariant.size)
 
 between : (m n : ℕ) → m + n - m ≡ n
 between m n = omega arith
