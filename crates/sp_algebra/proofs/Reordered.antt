@@ -1,5 +1,5 @@
 -- Sums of polynomials over a list in another order, and over the elements that pass a test.
-use Rattle.std.proofs.Common.{◌≡◌, ℕ, ◌+◌, Bool, true, false, cond, List, [], ◌∷◌, map, filter, refl, sym, ◌∙◌, ap, ap₂}
+use Rattle.std.proofs.Common.{◌≡◌, Bool, true, false, cond, List, [], ◌∷◌, map, filter, refl, sym, ◌∙◌, ap, ap₂}
 use Rattle.std.proofs.Common.{ℤ, pos, ◌+ℤ◌, ◌-ℤ◌, arith, sum_by}
 use Rattle.std.proofs.lemmas.Int.{ints}
 use Rattle.std.proofs.lemmas.List.Sums.{sum_by-cons}
@@ -31,7 +31,7 @@ int_sum-permutation : {X : Type 0} (g : X → ℤ) (xs ys : List X) → IsPermut
 int_sum-permutation g xs ys same =
     int_sum-parts g ys
     ∙ ap₂ (λ m n. pos m -ℤ pos n) (sum_by-IsPermutation (λ x. up (g x)) xs ys same)
-        (sum_by-IsPermutation (λ x. down (g x)) xs ys same)
+    (sum_by-IsPermutation (λ x. down (g x)) xs ys same)
     ∙ sym (int_sum-parts g xs)
 
 pub sum_over-permutation : {X : Type 0} (xs ys : List X) (f : X → Laurent) → IsPermutation xs ys →
@@ -39,7 +39,7 @@ pub sum_over-permutation : {X : Type 0} (xs ys : List X) (f : X → Laurent) →
 sum_over-permutation xs ys f same =
     same_laurent (sum_over ys f) (sum_over xs f) (IsLaurent-sum_over ys f) (IsLaurent-sum_over xs f)
     (λ j. coefficient-sum_over ys f j ∙ int_sum-permutation (λ x. coefficient (f x) j) xs ys same
-        ∙ sym (coefficient-sum_over xs f j))
+    ∙ sym (coefficient-sum_over xs f j))
 
 -- What fails the test counts as 0.
 pub sum_over-filter : {X : Type 0} (t : X → Bool) (xs : List X) (f : X → Laurent) →
@@ -48,11 +48,11 @@ unfolding sum_over
 sum_over-filter t [] f = refl
 sum_over-filter t (x ∷ xs) f =
     elim (t x) as (λ b. sum_over (cond b (x ∷ filter t xs) (filter t xs)) f ≡ plus (cond b (f x) [])
-        (sum_over xs (λ x. cond (t x) (f x) []))) [
+    (sum_over xs (λ x. cond (t x) (f x) []))) [
       | true ↦ ap (plus (f x)) (sum_over-filter t xs f)
       | false ↦ sum_over-filter t xs f
           ∙ sym (nought_plus (sum_over xs (λ x. cond (t x) (f x) []))
-              (IsLaurent-sum_over xs (λ x. cond (t x) (f x) [])))
+          (IsLaurent-sum_over xs (λ x. cond (t x) (f x) [])))
     ]
 
 pub sum_over-filter-permutation : {X : Type 0} (t : X → Bool) (xs ys : List X) (f : X → Laurent) → IsPermutation xs ys →

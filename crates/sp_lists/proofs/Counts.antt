@@ -35,7 +35,7 @@ pub sum-filter : {X : Type 0} (t : X → Bool) (f : X → ℕ) (xs : List X) →
 sum-filter t f [] = refl
 sum-filter t f (x ∷ xs) =
     elim (t x) as (λ b. sum_by f (cond b (x ∷ filter t xs) (filter t xs)) ≡ cond b (f x) 0 + sum_by
-        (λ x. cond (t x) (f x) 0) xs) [
+    (λ x. cond (t x) (f x) 0) xs) [
       | true ↦ sum_by-cons f x (filter t xs) ∙ ap (λ n. f x + n) (sum-filter t f xs)
       | false ↦ sum-filter t f xs ∙ sym (zero-add (sum_by (λ x. cond (t x) (f x) 0) xs))
     ]

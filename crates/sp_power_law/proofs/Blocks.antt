@@ -1,5 +1,5 @@
 -- A list in order as code takes it apart: the front of one partition is its first run.
-use Rattle.std.proofs.Common.{◌≡◌, ◌≢◌, ℕ, zero, suc, ◌+◌, ◌<◌, ◌≤◌, Bool, true, false, cond, List, [], ◌∷◌, length}
+use Rattle.std.proofs.Common.{◌≡◌, ℕ, suc, ◌+◌, Bool, true, false, cond, List, [], ◌∷◌}
 use Rattle.std.proofs.Common.{take, drop}
 use Rattle.std.proofs.Common.{refl, sym, ◌∙◌, ap, ap₂, subst, arith, get_or, true≢false, ◌⊎◌, inl, inr}
 use Rattle.std.specs.List.{AllByRecursion, prefix_len}
@@ -11,7 +11,7 @@ use Rattle.std.proofs.lemmas.Cmp.{nat_cmp_total, tied_itself}
 use Rattle.sp_defs.specs.Partition.{degree, compare, order, IsEarlier}
 use Rattle.sp_shapes.proofs.Order.{all_mono, equal_self, same_lists, less_trans, later_than}
 use Rattle.sp_power_law.specs.Runs.{is_at, Arrival, Run, joined, runs}
-use Rattle.sp_power_law.proofs.Runs.{InOrder, Begins, runs-begin, same_or_later}
+use Rattle.sp_power_law.proofs.Runs.{InOrder, runs-begin, same_or_later}
 
 -- ---- the first run
 

@@ -1,11 +1,10 @@
 -- What it takes for a row to gain a node of a residue.
-use Rattle.std.proofs.Common.{◌≡◌, ℕ, ◌+◌, ◌-◌, ◌<◌, ◌≤◌, Bool, true, false, not, ◌&&◌, ◌||◌, nat_eq, List, length}
+use Rattle.std.proofs.Common.{◌≡◌, ℕ, ◌+◌, ◌-◌, ◌<◌, ◌≤◌, Bool, true, false, ◌&&◌, nat_eq, List, length}
 use Rattle.std.proofs.Common.{refl, sym, ◌∙◌, ap, arith, ◌⊎◌, inl, inr, eqb-true, eq-eqb}
 use Rattle.sp_defs.specs.Partition.{part}
-use Rattle.sp_defs.specs.Node.{in_diagram, residue, is_addable, is_removable}
+use Rattle.sp_defs.specs.Node.{residue, is_addable, is_removable}
 use Rattle.sp_lists.proofs.Elements.{and_split, and_join, le_or_lt}
 use Rattle.sp_shapes.proofs.Corners.{row_addable, addable_row}
-use Rattle.sp_shapes.proofs.Moves.{out_node}
 use Rattle.sp_shapes.proofs.Regular.{index_short}
 use Rattle.sp_shapes.proofs.Residues.{right_differs}
 

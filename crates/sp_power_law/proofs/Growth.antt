@@ -1,13 +1,13 @@
 -- On the way down a signature each addable node can be added in its turn.
 use Rattle.std.proofs.Common.{◌≡◌, ℕ, zero, suc, ◌+◌, ◌-◌, ◌≤◌, Bool, true, false, cond, nat_eq, List, [], ◌∷◌, ◌++◌}
-use Rattle.std.proofs.Common.{flat_map, length, refl, sym, ◌∙◌, ap, subst, arith, ℤ, pos}
+use Rattle.std.proofs.Common.{flat_map, length, refl, sym, ◌∙◌, subst, arith, ℤ, pos}
 use Rattle.std.specs.List.{range_with_len}
 use Rattle.sp_defs.specs.Partition.{part, IsPartition}
 use Rattle.sp_defs.specs.Node.{residue, is_addable}
 use Rattle.sp_defs.specs.Signature.{Addable, Removable, Mark, row_marks, signature, grow}
 use Rattle.sp_lists.proofs.Elements.{and_split}
 use Rattle.sp_power_law.specs.Walk.{CanGrow}
-use Rattle.sp_power_law.proofs.Gains.{addable_at, removable_at, not_both}
+use Rattle.sp_power_law.proofs.Gains.{addable_at, removable_at}
 use Rattle.sp_power_law.proofs.Rows.{row_marks_are}
 use Rattle.sp_power_law.proofs.Steps.{Before, start, pass, choose, same_addable}
 

@@ -18,8 +18,11 @@ pub record Room (xs : List ℕ) (k : ℕ) : Type 0 where
 
 room-tail : (x : ℕ) (xs : List ℕ) (k : ℕ) → Room (x ∷ xs) (suc k) → Room xs k
 room-tail x xs k h =
-    record { there = omega (arith, h.there); less =
-    λ w. subst (λ n. slice_index xs k < n) (moved k w) (h.less (omega arith)) }
+    record {
+      there = omega (arith, h.there);
+      less =
+          λ w. subst (λ n. slice_index xs k < n) (moved k w) (h.less (omega arith));
+    }
   where
     moved : (k : ℕ) → 0 < k → slice_index (x ∷ xs) (suc k - 1) ≡ slice_index xs (k - 1)
     moved k w = let e : suc k - 1 ≡ suc (k - 1) = omega arith in ap (slice_index (x ∷ xs)) e
@@ -50,7 +53,7 @@ IsPartition-grow (x ∷ xs) zero h r =
     IsPartition-cons (suc x) xs (omega arith) (omega (arith, d)) (IsPartition-tail x xs h)
 IsPartition-grow (x ∷ xs) (suc k) h r =
     IsPartition-cons x (grow k xs) (IsPartition-head x xs h) (low (le_or_lt k 0))
-        (IsPartition-grow xs k (IsPartition-tail x xs h) (room-tail x xs k r))
+    (IsPartition-grow xs k (IsPartition-tail x xs h) (room-tail x xs k r))
   where
     d : slice_index xs 0 ≤ x
     d = h.descending 0
@@ -58,10 +61,10 @@ IsPartition-grow (x ∷ xs) (suc k) h r =
     low : (k ≤ 0) ⊎ (0 < k) → slice_index (grow k xs) 0 ≤ x
     low (inl z) =
         let s : slice_index (grow k xs) 0 ≡ slice_index xs 0 + 1 =
-            subst (λ n. slice_index (grow k xs) n ≡ slice_index xs n + 1) k0
-            (grow_same xs k (omega (arith, r.there))) in
+        subst (λ n. slice_index (grow k xs) n ≡ slice_index xs n + 1) k0
+        (grow_same xs k (omega (arith, r.there))) in
         let at_k : slice_index xs k < slice_index (x ∷ xs) k =
-            subst (λ m. slice_index xs k < slice_index (x ∷ xs) m) (one k) (r.less (omega arith)) in
+        subst (λ m. slice_index xs k < slice_index (x ∷ xs) m) (one k) (r.less (omega arith)) in
         let w : slice_index xs 0 < x = subst (λ n. slice_index xs n < slice_index (x ∷ xs) n) k0 at_k in
         omega (arith, s, w)
       where
