@@ -72,7 +72,10 @@ module _ (e i : ℕ) (he : 2 ≤ e) (parts : List ℕ) (pp : IsPartition parts) 
           inr (
             omega arith,
             facts_addable e i parts r hr
-                (record { room = λ more. above_it more (le_or_lt (part parts (r - 1)) (part parts r)); residue_is = new }),
+                (record {
+                  room = λ more. above_it more (le_or_lt (part parts (r - 1)) (part parts r));
+                  residue_is = new;
+                }),
           )
         where
           new : residue e (r, part parts r + 1) ≡ i

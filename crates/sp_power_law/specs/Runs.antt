@@ -1,5 +1,6 @@
 -- All moves from the entries of a vector, in a list that can be put in order and cut into runs of one partition each.
-use Rattle.std.specs.Prelude.{ℕ, ◌+◌, Bool, cond, nat_lt, List, [], ◌∷◌, ◌++◌, map, length, filter, sum_by, slice_index_or, ℤ}
+use Rattle.std.specs.Prelude.{ℕ, ◌+◌, Bool, cond, nat_lt, List, [], ◌∷◌, ◌++◌}
+use Rattle.std.specs.Prelude.{map, length, filter, sum_by, slice_index_or, ℤ}
 use Rattle.std.specs.Ordering.{is_eq}
 use Rattle.sp_defs.specs.Partition.{compare}
 use Rattle.sp_defs.specs.Laurent.{Laurent, power, times, sum_over, size}

@@ -40,7 +40,8 @@ push_moves-requires t c =
           (
             omega (arith, few, c.requires.near, ap unsigned_abs c.choose.ensures.difference),
             exponent_room c.args.way.now.exponent c.args.way.now.difference c.choose.result.exponent c.args.left
-                (length c.args.marks.now) c.choose.ensures.exponent c.requires.near c.requires.small c.if-left-eq0.false,
+                (length c.args.marks.now) c.choose.ensures.exponent c.requires.near c.requires.small
+                c.if-left-eq0.false,
           ),
         ),
       ),
