@@ -32,7 +32,8 @@ size-add_term k c ((j, d) ∷ p) hc (hd, h) =
     elim (int_cmp k j) as (λ o. size (placed o (k, c) (j, d) p (add_term k c p)) ≡ unsigned_abs c + size ((j, d) ∷ p)) [
       | Less ↦ size-put k c ((j, d) ∷ p) hc
       | Equal ↦
-          let sum : size (put k (c +ℤ d) p) ≡ unsigned_abs (c +ℤ d) + size p = size-put k (c +ℤ d) p (omega (arith, ints)) in
+          let sum : size (put k (c +ℤ d) p) ≡ unsigned_abs (c +ℤ d) + size p =
+          size-put k (c +ℤ d) p (omega (arith, ints)) in
           omega (arith, sum, abs-sum c d hc hd, size-cons j d p)
       | Greater ↦ omega (arith, size-cons j d (add_term k c p), size-add_term k c p hc h, size-cons j d p)
     ]
@@ -85,11 +86,13 @@ positive-power_times k p h =
 pub size-power_times : (k : ℤ) (p : Laurent) → AllPositive p → size (times (power k) p) ≡ size p
 unfolding times
 size-power_times k p h =
-    ap (λ ts. size (collect ts)) (products-power k p) ∙ size-collect (shifted k p) (positive-shifted k p h) ∙ size-shifted k p
+    ap (λ ts. size (collect ts)) (products-power k p) ∙ size-collect (shifted k p) (positive-shifted k p h)
+    ∙ size-shifted k p
 
 -- ---- sums over lists
 
-pub positive-sum_over : {X : Type 0} (xs : List X) (f : X → Laurent) → AllByRecursion (λ x. AllPositive (f x)) xs → AllPositive (sum_over xs f)
+pub positive-sum_over : {X : Type 0} (xs : List X) (f : X → Laurent) → AllByRecursion (λ x. AllPositive (f x)) xs →
+    AllPositive (sum_over xs f)
 unfolding sum_over
 positive-sum_over [] f h = tt
 positive-sum_over (x ∷ xs) f (h, hs) = positive_plus (f x) (sum_over xs f) h (positive-sum_over xs f hs)

@@ -1,6 +1,8 @@
 -- Counting the nodes of a partition by their ladders, row by row and column by column.
-use Rattle.std.proofs.Common.{◌≡◌, ◌≢◌, ℕ, zero, suc, ◌+◌, ◌-◌, ◌*◌, ◌<◌, ◌≤◌, max, fold, cond, Bool, true, false, List, [], ◌∷◌, ◌++◌}
-use Rattle.std.proofs.Common.{map, filter, take, set, length, get_or, nat_eq, nat_lt, count_by, sum_by, sum, replicate, refl, sym, ◌∙◌, ap, ap₂}
+use Rattle.std.proofs.Common.{◌≡◌, ◌≢◌, ℕ, zero, suc, ◌+◌, ◌-◌, ◌*◌, ◌<◌, ◌≤◌, max, fold, cond, Bool, true, false, List}
+use Rattle.std.proofs.Common.{[], ◌∷◌, ◌++◌}
+use Rattle.std.proofs.Common.{map, filter, take, set, length, get_or, nat_eq, nat_lt, count_by, sum_by, sum, replicate}
+use Rattle.std.proofs.Common.{refl, sym, ◌∙◌, ap, ap₂}
 use Rattle.std.proofs.Common.{subst, arith, append_assoc, zero-add}
 use Rattle.std.proofs.lemmas.Bool.{eqb-true, eqb-false, ne_eqb, ltb-true, lt-ltb, le-ltb}
 use Rattle.std.proofs.lemmas.List.{map-append}
@@ -68,11 +70,13 @@ counted e row k l old ladder counts at lt so_far = by_test (nat_eq ladder l) ref
     here : ladder_of e (row, 1 + k) ≡ ladder
     here = let column : 1 + k - 1 ≡ k = omega arith in ap (λ c. row + (e - 1) * c) column ∙ sym at
 
-    more : (t : Bool) → nat_eq ladder l ≡ t → count_on e l (row_nodes row (k + 1)) ≡ count_on e l (row_nodes row k) + cond t 1 0
+    more : (t : Bool) → nat_eq ladder l ≡ t →
+        count_on e l (row_nodes row (k + 1)) ≡ count_on e l (row_nodes row k) + cond t 1 0
     more t is =
         ap (count_on e l) (row_nodes-more row k) ∙ count_on-append e l (row_nodes row k) ((row, 1 + k) ∷ [])
         ∙ ap (λ n. count_on e l (row_nodes row k) + n)
-        (let one : count_on e l ((row, 1 + k) ∷ []) ≡ cond (nat_eq (ladder_of e (row, 1 + k)) l) 1 0 = zero-add (cond (nat_eq (ladder_of e (row, 1 + k)) l) 1 0) in
+        (let one : count_on e l ((row, 1 + k) ∷ []) ≡ cond (nat_eq (ladder_of e (row, 1 + k)) l) 1 0 =
+        zero-add (cond (nat_eq (ladder_of e (row, 1 + k)) l) 1 0) in
         one ∙ ap (λ n. cond (nat_eq n l) 1 0) here ∙ ap (λ b. cond b 1 0) is)
 
     by_test : (t : Bool) → nat_eq ladder l ≡ t →
@@ -98,7 +102,8 @@ pub next_column : (e row k ladder : ℕ) → ladder ≡ row + (e - 1) * k → la
 next_column e row k ladder at = omega (arith, at)
 
 -- The ladders of a row's nodes are no further than that of its last node at the greatest e.
-pub inside : (e row k part ladder most : ℕ) → ladder ≡ row + (e - 1) * k → e ≤ 64 → k < part → row + 63 * (part - 1) < most →
+pub inside : (e row k part ladder most : ℕ) → ladder ≡ row + (e - 1) * k → e ≤ 64 → k < part →
+    row + 63 * (part - 1) < most →
     ladder < most
 inside e row k part ladder most at he lt h =
     let e_less : e - 1 ≤ 63 = omega arith in
@@ -114,12 +119,14 @@ pub record Row (e i : ℕ) (parts : List ℕ) : Type 0 where
   pub few : i + get_or parts i 0 ≤ 32
   pub room : (l : ℕ) → count_on e l (nodes (take i parts)) + get_or parts i 0 ≤ 32
 
-rows_before : (i : ℕ) (parts : List ℕ) → i ≤ length parts → ((k : ℕ) → k < length parts → 0 < get_or parts k 0) → i ≤ sum (take i parts)
+rows_before : (i : ℕ) (parts : List ℕ) → i ≤ length parts → ((k : ℕ) → k < length parts → 0 < get_or parts k 0) →
+    i ≤ sum (take i parts)
 rows_before zero parts le pos = omega arith
 rows_before (suc i) parts le pos =
     let before : i ≤ sum (take i parts) = rows_before i parts (omega arith) pos in
     let next : suc i ≡ i + 1 = omega arith in
-    let more : sum (take (i + 1) parts) ≡ sum (take i parts) + get_or parts i 0 = sum_by_more (λ x. x) parts i 0 (omega arith) in
+    let more : sum (take (i + 1) parts) ≡ sum (take i parts) + get_or parts i 0 =
+    sum_by_more (λ x. x) parts i 0 (omega arith) in
     subst (λ n. n ≤ sum (take n parts)) (sym next) (omega (arith, before, more, pos i (omega arith)))
 
 pub row : (e i : ℕ) (parts : List ℕ) → IsHeld parts → i < length parts → Row e i parts
@@ -148,11 +155,14 @@ rows_few parts held =
 pub row_small : (i p : ℕ) → 0 < p → i + p ≤ 32 → i + 1 + 63 * (p - 1) < 1955
 row_small i p pos few = omega (arith, pos, few)
 
-pub counted_row : (e l i before after : ℕ) (parts : List ℕ) → i < length parts → before ≡ count_on e l (nodes (take i parts)) →
-    after ≡ before + count_on e l (row_nodes (i + 1) (get_or parts i 0)) → after ≡ count_on e l (nodes (take (i + 1) parts))
+pub counted_row : (e l i before after : ℕ) (parts : List ℕ) → i < length parts →
+    before ≡ count_on e l (nodes (take i parts)) →
+    after ≡ before + count_on e l (row_nodes (i + 1) (get_or parts i 0)) → after
+    ≡ count_on e l (nodes (take (i + 1) parts))
 counted_row e l i before after parts lt so_far more =
     more ∙ ap (λ n. n + count_on e l (row_nodes (i + 1) (get_or parts i 0))) so_far
-    ∙ sym (ap (count_on e l) (nodes-more parts i 0 lt) ∙ count_on-append e l (nodes (take i parts)) (row_nodes (i + 1) (get_or parts i 0)))
+    ∙ sym (ap (count_on e l) (nodes-more parts i 0 lt)
+    ∙ count_on-append e l (nodes (take i parts)) (row_nodes (i + 1) (get_or parts i 0)))
 
 pub zero_at : (size n : ℕ) → ◌≡◌ {A = ℕ} (get_or (replicate size 0) n 0) 0
 zero_at zero n = refl
@@ -185,7 +195,8 @@ greatest_in_row e m r (suc n) =
   where
     later : max (max m (ladder_of e (r, n + 1))) (ladder_of e (r, 1 + suc n)) ≡ max m (ladder_of e (r, suc n + 1))
     later =
-        let before : ladder_of e (r, n + 1) ≡ r + (e - 1) * n = let c : n + 1 - 1 ≡ n = omega arith in ap (λ k. r + (e - 1) * k) c in
+        let before : ladder_of e (r, n + 1) ≡ r + (e - 1) * n = let c : n + 1 - 1 ≡ n = omega arith in
+        ap (λ k. r + (e - 1) * k) c in
         let here : ladder_of e (r, 1 + suc n) ≡ r + (e - 1) * (n + 1) =
         let c : 1 + suc n - 1 ≡ n + 1 = omega arith in ap (λ k. r + (e - 1) * k) c in
         let there : ladder_of e (r, suc n + 1) ≡ r + (e - 1) * (n + 1) =
@@ -199,7 +210,8 @@ greatest_row e i before after parts lt pos so_far more =
     let p : ℕ = get_or parts i 0 in
     let columns : p - 1 + 1 ≡ p = omega arith in
     more ∙ ap (λ n. max n (ladder_of e (i + 1, p))) so_far
-    ∙ sym (ap (greatest_ladder e 0) (nodes-more parts i 0 lt) ∙ greatest_ladder-append e 0 (nodes (take i parts)) (row_nodes (i + 1) p)
+    ∙ sym (ap (greatest_ladder e 0) (nodes-more parts i 0 lt)
+    ∙ greatest_ladder-append e 0 (nodes (take i parts)) (row_nodes (i + 1) p)
     ∙ subst (λ q. greatest_ladder e (greatest_ladder e 0 (nodes (take i parts))) (row_nodes (i + 1) q)
     ≡ max (greatest_ladder e 0 (nodes (take i parts))) (ladder_of e (i + 1, q))) columns
     (greatest_in_row e (greatest_ladder e 0 (nodes (take i parts))) (i + 1) (p - 1)))
@@ -222,7 +234,13 @@ one_ladder v a (suc k) = by_test (nat_eq v a) refl (one_ladder v (a + 1) k)
     by_test true is rest =
         let same : v ≡ a = eqb-true v a is in
         let head : ◌≡◌ {A = ℕ} (cond (nat_eq v a) 1 0) 1 = ap (λ t. cond t 1 0) is in
-        omega (arith, sum_by-cons (λ l. cond (nat_eq v l) 1 0) a (range_with_len (a + 1) k), head, none_later (a + 1) k (omega arith))
+        omega (
+          arith,
+          sum_by-cons (λ l. cond (nat_eq v l) 1 0) a (range_with_len (a + 1) k),
+          head,
+          none_later (a + 1) k
+              (omega arith),
+        )
     by_test false is rest =
         let head : ◌≡◌ {A = ℕ} (cond (nat_eq v a) 1 0) 0 = ap (λ t. cond t 1 0) is in
         omega (arith, sum_by-cons (λ l. cond (nat_eq v l) 1 0) a (range_with_len (a + 1) k), head, rest)
@@ -232,7 +250,8 @@ sums_plus f g [] = refl
 sums_plus f g (x ∷ xs) =
     let fs : sum_by f (x ∷ xs) ≡ f x + sum_by f xs = sum_by-cons f x xs in
     let gs : sum_by g (x ∷ xs) ≡ g x + sum_by g xs = sum_by-cons g x xs in
-    let both : sum_by (λ x. f x + g x) (x ∷ xs) ≡ f x + g x + sum_by (λ x. f x + g x) xs = sum_by-cons (λ x. f x + g x) x xs in
+    let both : sum_by (λ x. f x + g x) (x ∷ xs) ≡ f x + g x + sum_by (λ x. f x + g x) xs =
+    sum_by-cons (λ x. f x + g x) x xs in
     omega (arith, fs, gs, both, sums_plus f g xs)
 
 sums_alike : {X : Type 0} (f g : X → ℕ) (xs : List X) → ((x : X) → f x ≡ g x) → sum_by f xs ≡ sum_by g xs
@@ -249,7 +268,8 @@ counts_within e a k [] = zeros (range_with_len a k)
 counts_within e a k (x ∷ xs) =
     let split : sum_by (λ l. count_on e l (x ∷ xs)) (range_with_len a k)
     ≡ sum_by (λ l. cond (nat_eq (ladder_of e x) l) 1 0 + count_on e l xs) (range_with_len a k) =
-    sums_alike (λ l. count_on e l (x ∷ xs)) (λ l. cond (nat_eq (ladder_of e x) l) 1 0 + count_on e l xs) (range_with_len a k)
+    sums_alike (λ l. count_on e l (x ∷ xs)) (λ l. cond (nat_eq (ladder_of e x) l) 1 0 + count_on e l xs)
+    (range_with_len a k)
     (λ l. sum_by-cons (λ y. cond (nat_eq (ladder_of e y) l) 1 0) x xs) in
     omega (
       arith,
@@ -266,10 +286,12 @@ kept_within f (l ∷ ls) = by_test (nat_lt 0 (f l)) refl (kept_within f ls)
     by_test : (t : Bool) → nat_lt 0 (f l) ≡ t → length (filter (λ l. nat_lt 0 (f l)) ls) ≤ sum_by f ls →
         length (filter (λ l. nat_lt 0 (f l)) (l ∷ ls)) ≤ sum_by f (l ∷ ls)
     by_test true is rest =
-        let kept = ap (λ t. length (cond t (l ∷ filter (λ l. nat_lt 0 (f l)) ls) (filter (λ l. nat_lt 0 (f l)) ls))) is in
+        let kept =
+        ap (λ t. length (cond t (l ∷ filter (λ l. nat_lt 0 (f l)) ls) (filter (λ l. nat_lt 0 (f l)) ls))) is in
         omega (arith, sum_by-cons f l ls, kept, rest, ltb-true 0 (f l) is)
     by_test false is rest =
-        let kept = ap (λ t. length (cond t (l ∷ filter (λ l. nat_lt 0 (f l)) ls) (filter (λ l. nat_lt 0 (f l)) ls))) is in
+        let kept =
+        ap (λ t. length (cond t (l ∷ filter (λ l. nat_lt 0 (f l)) ls) (filter (λ l. nat_lt 0 (f l)) ls))) is in
         omega (arith, sum_by-cons f l ls, kept, rest)
 
 -- The ladders up to k that have nodes.
@@ -310,19 +332,23 @@ found_more e ladder mu found least some so_far =
     let k : ℕ = ladder - 1 in
     let here : 1 + k ≡ ladder = omega arith in
     let next : k + 1 ≡ ladder + 1 - 1 = omega arith in
-    let is_some : nat_lt 0 (on_ladder e mu (1 + k)) ≡ true = ap (λ l. nat_lt 0 (on_ladder e mu l)) here ∙ lt-ltb 0 (on_ladder e mu ladder) some in
+    let is_some : nat_lt 0 (on_ladder e mu (1 + k)) ≡ true = ap (λ l. nat_lt 0 (on_ladder e mu l)) here
+    ∙ lt-ltb 0 (on_ladder e mu ladder) some in
     sym (ap (λ n. map (step_on e mu) (with_nodes e mu n)) (sym next)
     ∙ ap (map (step_on e mu)) (with_nodes-more e k mu
     ∙ ap (λ t. with_nodes e mu k ++ cond t ((1 + k) ∷ []) []) is_some ∙ ap (λ l. with_nodes e mu k ++ (l ∷ [])) here)
-    ∙ map-append (step_on e mu) (with_nodes e mu k) (ladder ∷ []) ∙ ap (λ s. s ++ (step_on e mu ladder ∷ [])) (sym so_far))
+    ∙ map-append (step_on e mu) (with_nodes e mu k) (ladder ∷ [])
+    ∙ ap (λ s. s ++ (step_on e mu ladder ∷ [])) (sym so_far))
 
 pub found_same : (e ladder : ℕ) (mu : List ℕ) (found : List Step) → 1 ≤ ladder → on_ladder e mu ladder ≤ 0 →
-    found ≡ map (step_on e mu) (with_nodes e mu (ladder - 1)) → found ≡ map (step_on e mu) (with_nodes e mu (ladder + 1 - 1))
+    found ≡ map (step_on e mu) (with_nodes e mu (ladder - 1)) → found
+    ≡ map (step_on e mu) (with_nodes e mu (ladder + 1 - 1))
 found_same e ladder mu found least none so_far =
     let k : ℕ = ladder - 1 in
     let here : 1 + k ≡ ladder = omega arith in
     let next : k + 1 ≡ ladder + 1 - 1 = omega arith in
-    let is_none : nat_lt 0 (on_ladder e mu (1 + k)) ≡ false = ap (λ l. nat_lt 0 (on_ladder e mu l)) here ∙ le-ltb 0 (on_ladder e mu ladder) none in
+    let is_none : nat_lt 0 (on_ladder e mu (1 + k)) ≡ false = ap (λ l. nat_lt 0 (on_ladder e mu l)) here
+    ∙ le-ltb 0 (on_ladder e mu ladder) none in
     so_far ∙ sym (ap (λ n. map (step_on e mu) (with_nodes e mu n)) (sym next)
     ∙ ap (map (step_on e mu)) (with_nodes-more e k mu ∙ ap (λ t. with_nodes e mu k ++ cond t ((1 + k) ∷ []) []) is_none
     ∙ append-nil (with_nodes e mu k)))

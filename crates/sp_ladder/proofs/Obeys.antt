@@ -19,7 +19,8 @@ at_entries : (e : ℕ) (mu : List ℕ) (P : List ℕ × Laurent → Type 0) →
     AllByRecursion P (entries (degree mu) (ladder_vector e mu))
 at_entries e mu P h =
     all_at P (partitions (degree mu)) (ladder_vector e mu)
-    (all_mono (IsPartitionOf (degree mu)) (λ x. ladder_vector e mu x ≢ [] → P (x, ladder_vector e mu x)) (partitions (degree mu))
+    (all_mono (IsPartitionOf (degree mu)) (λ x. ladder_vector e mu x ≢ [] → P (x, ladder_vector e mu x))
+    (partitions (degree mu))
     (λ x is ne. h x is.partition ne) (all_partitions (degree mu)))
 
 pub obeys : (e : ℕ) (mu : List ℕ) → IsLabel e mu → ObeysLadderLaw e mu (entries (degree mu) (ladder_vector e mu))

@@ -1,14 +1,16 @@
 -- The weight of a ladder vector: no coefficient of a partial ladder vector passes the limit exactly where no induction
 -- on the way is too large. Nothing cancels, since all coefficients are positive.
 use Rattle.std.proofs.Common.{◌≡◌, ◌≢◌, ℕ, ◌+◌, ◌<◌, ◌≤◌, List, [], ◌∷◌, ◌++◌, map, reverse, take}
-use Rattle.std.proofs.Common.{length, flat_map, get_or, refl, sym, ◌∙◌, ap, subst, arith, sum_by, zero-add, ◌⊎◌, inl, inr}
+use Rattle.std.proofs.Common.{length, flat_map, get_or, refl, sym, ◌∙◌, ap, subst, arith, sum_by, zero-add, ◌⊎◌, inl}
+use Rattle.std.proofs.Common.{inr}
 use Rattle.std.specs.List.{AllByRecursion, range_with_len}
 use Rattle.std.proofs.lemmas.List.{take_more, take_all, reverse-append}
 use Rattle.std.proofs.lemmas.List.Sums.{sum_by-cons, sum_by-append, sum_by-take-le}
 use Rattle.sp_defs.specs.Partition.{degree, partitions, IsPartition, IsPartitionOf}
 use Rattle.sp_defs.specs.Laurent.{Laurent, power, times, size, one, sum_over, plus, collect, add_term}
 use Rattle.sp_defs.specs.Power.{Vector, sources, exponent, divided_power, reaching_size, induction_weight}
-use Rattle.sp_defs.specs.Ladder.{Step, steps, chain_sum, chains_to, chain_exponent, partial_ladder_vector, ladder_vector, ladder_weight}
+use Rattle.sp_defs.specs.Ladder.{Step, steps, chain_sum, chains_to, chain_exponent, partial_ladder_vector}
+use Rattle.sp_defs.specs.Ladder.{ladder_vector, ladder_weight}
 use Rattle.sp_defs.specs.Statements.{IsLabel}
 use Rattle.sp_lists.proofs.Elements.{le_or_lt, all_left, all_right, all_flat, range_all, range_at}
 use Rattle.sp_lists.proofs.Greatest.{greatest_within, within_greatest, map_within, within_map}
@@ -48,7 +50,8 @@ nodes_added-reverse (s ∷ ss) =
     let sums : nodes_added (reverse ss ++ (s ∷ [])) ≡ nodes_added (reverse ss) + nodes_added (s ∷ []) =
     sum_by-append (λ s. s.count) (reverse ss) (s ∷ []) in
     let own : nodes_added (s ∷ ss) ≡ s.count + nodes_added ss = sum_by-cons (λ s. s.count) s ss in
-    let whole : nodes_added (reverse (s ∷ ss)) ≡ nodes_added (reverse ss) + nodes_added (s ∷ []) = ap nodes_added split ∙ sums in
+    let whole : nodes_added (reverse (s ∷ ss)) ≡ nodes_added (reverse ss) + nodes_added (s ∷ []) = ap nodes_added split
+    ∙ sums in
     let last : nodes_added (s ∷ []) ≡ s.count = zero-add s.count in
     omega (arith, whole, own, last, nodes_added-reverse ss)
 
@@ -80,14 +83,16 @@ nodes_added-more ss t d lt =
 
 pub partial_step : (e : ℕ) (mu : List ℕ) (t : ℕ) (d : Step) (lambda : List ℕ) → t < length (steps e mu) →
     partial_ladder_vector e mu (t + 1) lambda
-    ≡ divided_power e (get_or (steps e mu) t d).residue (get_or (steps e mu) t d).count (partial_ladder_vector e mu t) lambda
+    ≡ divided_power e (get_or (steps e mu) t d).residue (get_or (steps e mu) t d).count
+    (partial_ladder_vector e mu t) lambda
 unfolding partial_ladder_vector
 partial_step e mu t d lambda lt =
     ap (λ ss. chain_sum e ss lambda) back
     ∙ chain_step e (get_or (steps e mu) t d) (reverse (take t (steps e mu))) lambda
   where
     back : reverse (take (t + 1) (steps e mu)) ≡ get_or (steps e mu) t d ∷ reverse (take t (steps e mu))
-    back = ap reverse (take_more (steps e mu) t d lt) ∙ reverse-append (take t (steps e mu)) (get_or (steps e mu) t d ∷ [])
+    back = ap reverse (take_more (steps e mu) t d lt)
+        ∙ reverse-append (take t (steps e mu)) (get_or (steps e mu) t d ∷ [])
 
 pub partial_whole : (e : ℕ) (mu lambda : List ℕ) →
     partial_ladder_vector e mu (length (steps e mu)) lambda ≡ ladder_vector e mu lambda
@@ -103,7 +108,8 @@ pub size-divided_power : (e i m : ℕ) (w : Vector) (after : List ℕ) → ((lam
 unfolding divided_power
 size-divided_power e i m w after positive = of_sources (sources e i m after)
   where
-    all_positive : (xs : List (List ℕ)) → AllByRecursion (λ x. AllPositive (times (power (exponent e i x after)) (w x))) xs
+    all_positive : (xs : List (List ℕ)) →
+        AllByRecursion (λ x. AllPositive (times (power (exponent e i x after)) (w x))) xs
     all_positive [] = tt
     all_positive (x ∷ xs) = (positive-power_times (exponent e i x after) (w x) (positive x), all_positive xs)
 
@@ -112,9 +118,11 @@ size-divided_power e i m w after positive = of_sources (sources e i m after)
     same_sizes [] = refl
     same_sizes (x ∷ xs) =
         let one_more : sum_by (λ x. size (times (power (exponent e i x after)) (w x))) (x ∷ xs)
-        ≡ size (times (power (exponent e i x after)) (w x)) + sum_by (λ x. size (times (power (exponent e i x after)) (w x))) xs =
+        ≡ size (times (power (exponent e i x after)) (w x)) + sum_by
+        (λ x. size (times (power (exponent e i x after)) (w x))) xs =
         sum_by-cons (λ x. size (times (power (exponent e i x after)) (w x))) x xs in
-        let other : sum_by (λ x. size (w x)) (x ∷ xs) ≡ size (w x) + sum_by (λ x. size (w x)) xs = sum_by-cons (λ x. size (w x)) x xs in
+        let other : sum_by (λ x. size (w x)) (x ∷ xs) ≡ size (w x) + sum_by (λ x. size (w x)) xs =
+        sum_by-cons (λ x. size (w x)) x xs in
         omega (arith, one_more, other, size-power_times (exponent e i x after) (w x) (positive x), same_sizes xs)
 
     of_sources : (xs : List (List ℕ)) →
@@ -155,17 +163,20 @@ occurs_holds P x (y ∷ ys) (h, hs) (inr at) = occurs_holds P x ys hs at
 -- The sizes after step t are those that reach the partitions in the induction.
 size_after : (e : ℕ) (mu : List ℕ) (t : ℕ) (d : Step) (lambda : List ℕ) → t < length (steps e mu) →
     size (partial_ladder_vector e mu (t + 1) lambda)
-    ≡ reaching_size e (get_or (steps e mu) t d).residue (get_or (steps e mu) t d).count (partial_ladder_vector e mu t) lambda
+    ≡ reaching_size e (get_or (steps e mu) t d).residue (get_or (steps e mu) t d).count
+    (partial_ladder_vector e mu t) lambda
 size_after e mu t d lambda lt =
     ap size (partial_step e mu t d lambda lt)
-    ∙ size-divided_power e (get_or (steps e mu) t d).residue (get_or (steps e mu) t d).count (partial_ladder_vector e mu t) lambda (partial_positive e mu t)
+    ∙ size-divided_power e (get_or (steps e mu) t d).residue (get_or (steps e mu) t d).count
+    (partial_ladder_vector e mu t) lambda (partial_positive e mu t)
 
 abbrev pub step_weight : ℕ → List ℕ → ℕ → Step → ℕ
 step_weight e mu t s = induction_weight e s.residue s.count (degree_after e mu t) (partial_ladder_vector e mu t)
 
 -- the sizes after a step are within a bound exactly where the induction's weight is
 step_within : (limit e : ℕ) (mu : List ℕ) (t : ℕ) (d : Step) → t < length (steps e mu) →
-    step_weight e mu t (get_or (steps e mu) t d) ≤ limit → (lambda : List ℕ) → IsPartitionOf (degree_after e mu (t + 1)) lambda →
+    step_weight e mu t (get_or (steps e mu) t d) ≤ limit → (lambda : List ℕ) →
+    IsPartitionOf (degree_after e mu (t + 1)) lambda →
     size (partial_ladder_vector e mu (t + 1) lambda) ≤ limit
 step_within limit e mu t d lt h lambda pl =
     let s : Step = get_or (steps e mu) t d in
@@ -189,20 +200,24 @@ within_next limit e mu t d lt so_far h = record { sizes = λ s le lambda pl. by_
         split (inl low) = inl low
         split (inr high) = inr (omega arith)
 
-    by_step : (s : ℕ) → s ≤ t + 1 → (lambda : List ℕ) → IsPartitionOf (degree_after e mu s) lambda → (s ≤ t) ⊎ (t + 1 ≡ s) →
+    by_step : (s : ℕ) → s ≤ t + 1 → (lambda : List ℕ) → IsPartitionOf (degree_after e mu s) lambda →
+        (s ≤ t) ⊎ (t + 1 ≡ s) →
         size (partial_ladder_vector e mu s lambda) ≤ limit
     by_step s le lambda pl (inl low) = so_far.sizes s low lambda pl
     by_step s le lambda pl (inr last) =
-        subst (λ k. IsPartitionOf (degree_after e mu k) lambda → size (partial_ladder_vector e mu k lambda) ≤ limit) last
+        subst (λ k. IsPartitionOf (degree_after e mu k) lambda → size (partial_ladder_vector e mu k lambda) ≤ limit)
+        last
         (step_within limit e mu t d lt h lambda) pl
 
 -- Where all are within the limit the ladder vector isn't too large.
-pub weight_within : (limit e : ℕ) (mu : List ℕ) → WithinUpTo limit e mu (length (steps e mu)) → ladder_weight e mu ≤ limit
+pub weight_within : (limit e : ℕ) (mu : List ℕ) → WithinUpTo limit e mu (length (steps e mu)) →
+    ladder_weight e mu ≤ limit
 unfolding ladder_weight
 weight_within limit e mu within =
     greatest_within limit (flat_map after_step (range_with_len 0 (length (steps e mu) + 1)))
     (all_flat (λ n. n ≤ limit) after_step (range_with_len 0 (length (steps e mu) + 1))
-    (range_all (λ t. AllByRecursion (λ n. n ≤ limit) (after_step t)) 0 (length (steps e mu) + 1) (λ t _ lt. each_step t (omega arith))))
+    (range_all (λ t. AllByRecursion (λ n. n ≤ limit) (after_step t)) 0 (length (steps e mu) + 1)
+    (λ t _ lt. each_step t (omega arith))))
   where
     sizes : ℕ → ℕ → List ℕ
     sizes t k = map (λ lambda. size (partial_ladder_vector e mu t lambda)) (partitions k)
@@ -217,7 +232,8 @@ weight_within limit e mu within =
         by_value : (p : Laurent) → partial_ladder_vector e mu t lambda ≡ p → size p ≤ limit
         by_value [] is = omega arith
         by_value (c ∷ p) is =
-            let total : degree lambda ≡ degree_after e mu t = partial_degree e mu t lambda (λ z. let no : [] ≡ c ∷ p = sym z ∙ is in cc) in
+            let total : degree lambda ≡ degree_after e mu t =
+            partial_degree e mu t lambda (λ z. let no : [] ≡ c ∷ p = sym z ∙ is in cc) in
             subst (λ q. size q ≤ limit) is (within.sizes t le lambda record { partition = pl; total = total })
 
     each_step : (t : ℕ) → t ≤ length (steps e mu) → AllByRecursion (λ n. n ≤ limit) (after_step t)
@@ -248,25 +264,31 @@ within_weight limit e mu label h = record { sizes = at_step }
     after_step : ℕ → List ℕ
     after_step t = flat_map (sizes t) (range_with_len 0 (degree mu + 1))
 
-    all_steps : AllByRecursion (λ t. AllByRecursion (λ n. n ≤ limit) (after_step t)) (range_with_len 0 (length (steps e mu) + 1))
+    all_steps : AllByRecursion (λ t. AllByRecursion (λ n. n ≤ limit) (after_step t))
+        (range_with_len 0 (length (steps e mu) + 1))
     all_steps =
         flat_all (λ n. n ≤ limit) after_step (range_with_len 0 (length (steps e mu) + 1))
         (within_greatest limit (flat_map after_step (range_with_len 0 (length (steps e mu) + 1))) h)
 
     whole : nodes_added (steps e mu) ≡ degree mu
-    whole = ap nodes_added (sym (take_all (length (steps e mu)) (steps e mu) (omega arith))) ∙ degree_after_all e mu label
+    whole = ap nodes_added (sym (take_all (length (steps e mu)) (steps e mu) (omega arith)))
+        ∙ degree_after_all e mu label
 
     at_step : (t : ℕ) → t ≤ length (steps e mu) → (lambda : List ℕ) → IsPartitionOf (degree_after e mu t) lambda →
         size (partial_ladder_vector e mu t lambda) ≤ limit
     at_step t le lambda pl =
         let here : AllByRecursion (λ n. n ≤ limit) (after_step t) =
-        range_at (λ t. AllByRecursion (λ n. n ≤ limit) (after_step t)) 0 (length (steps e mu) + 1) all_steps t (omega arith) (omega arith) in
+        range_at (λ t. AllByRecursion (λ n. n ≤ limit) (after_step t)) 0 (length (steps e mu) + 1) all_steps t
+        (omega arith) (omega arith) in
         let degrees = flat_all (λ n. n ≤ limit) (sizes t) (range_with_len 0 (degree mu + 1)) here in
         let few : degree_after e mu t ≤ degree mu = omega (arith, degree_after_within e mu t, whole) in
         let of_degree : AllByRecursion (λ n. n ≤ limit) (sizes t (degree_after e mu t)) =
-        range_at (λ k. AllByRecursion (λ n. n ≤ limit) (sizes t k)) 0 (degree mu + 1) degrees (degree_after e mu t) (omega arith) (omega arith) in
-        occurs_holds (λ lambda. size (partial_ladder_vector e mu t lambda) ≤ limit) lambda (partitions (degree_after e mu t))
-        (within_map (λ lambda. size (partial_ladder_vector e mu t lambda)) limit (partitions (degree_after e mu t)) of_degree)
+        range_at (λ k. AllByRecursion (λ n. n ≤ limit) (sizes t k)) 0 (degree mu + 1) degrees (degree_after e mu t)
+        (omega arith) (omega arith) in
+        occurs_holds (λ lambda. size (partial_ladder_vector e mu t lambda) ≤ limit) lambda
+        (partitions (degree_after e mu t))
+        (within_map (λ lambda. size (partial_ladder_vector e mu t lambda)) limit
+        (partitions (degree_after e mu t)) of_degree)
         (each_partition (degree_after e mu t) lambda pl.partition pl.total)
 
 -- Where the induction of one step is too large, so is the ladder vector.
@@ -285,9 +307,12 @@ weight_past limit e mu t d label lt past = by_order (le_or_lt (ladder_weight e m
         let within = within_weight limit e mu label h in
         greatest_within limit (map reaches (partitions (degree_after e mu t + s.count)))
         (map_within reaches limit (partitions (degree_after e mu t + s.count))
-        (all_mono (IsPartitionOf (degree_after e mu t + s.count)) (λ x. reaches x ≤ limit) (partitions (degree_after e mu t + s.count))
+        (all_mono (IsPartitionOf (degree_after e mu t + s.count)) (λ x. reaches x ≤ limit)
+        (partitions (degree_after e mu t + s.count))
         (λ x px. subst (λ n. n ≤ limit) (size_after e mu t d x lt)
-        (within.sizes (t + 1) (omega arith) x record { partition = px.partition; total = px.total ∙ sym (nodes_added-more (steps e mu) t d lt) }))
+        (within.sizes (t + 1)
+        (omega arith) x record
+        { partition = px.partition; total = px.total ∙ sym (nodes_added-more (steps e mu) t d lt) }))
         (all_partitions (degree_after e mu t + s.count))))
 
     by_order : (ladder_weight e mu ≤ limit) ⊎ (limit < ladder_weight e mu) → limit < ladder_weight e mu

@@ -1,5 +1,6 @@
 -- How the words of a line say a command: numbers past a byte say none.
-use Rattle.std.proofs.Common.{◌≡◌, ◌≢◌, ℕ, ◌+◌, ◌<◌, ◌≤◌, cond, Bool, true, false, ◌&&◌, List, [], ◌∷◌, refl, sym, ◌∙◌, ap}
+use Rattle.std.proofs.Common.{◌≡◌, ◌≢◌, ℕ, ◌+◌, ◌<◌, ◌≤◌, cond, Bool, true, false, ◌&&◌, List, [], ◌∷◌, refl, sym, ◌∙◌}
+use Rattle.std.proofs.Common.{ap}
 use Rattle.std.proofs.Common.{nat_lt, nat_le, arith, cond, eqb, subst}
 use Rattle.std.proofs.lemmas.Bool.{ltb-false, ltb-true, leb-true, lt-leb}
 use Rattle.std.specs.Prelude.{Option, Some, None, codes, IfSome}
@@ -7,7 +8,8 @@ use Rattle.sp_defs.specs.Partition.{degree, is_regular}
 use Rattle.sp_partition.specs.declared.TheConstants.{DEGREE_LIMIT}
 use Rattle.sp_lang.specs.Small.{small}
 use Rattle.sp_lang.specs.Words.{is_text, words, onto_first, number_of, partition_of}
-use Rattle.sp_lang.specs.Built.{IsCommand, can_induce, can_label, is_e, induce_of, induce_from, label_of, label_from, with_label, command_from, command_of}
+use Rattle.sp_lang.specs.Built.{IsCommand, can_induce, can_label, is_e, induce_of, induce_from, label_of, label_from}
+use Rattle.sp_lang.specs.Built.{with_label, command_from, command_of}
 use Rattle.sp_lang.specs.declared.command.Command.{Command}
 use Rattle.sp_lang.specs.declared.command.Command.TheVariants.{Induce, Ladders, Ladder}
 
@@ -25,7 +27,8 @@ pub label_of-small : (e : Option ℕ) (mu : Option (List ℕ)) → label_of (sma
 label_of-small None mu = refl
 label_of-small (Some e) mu = by_test (nat_lt e 256) refl mu
   where
-    by_test : (t : Bool) → nat_lt e 256 ≡ t → (mu : Option (List ℕ)) → label_of (small (Some e)) mu ≡ label_of (Some e) mu
+    by_test : (t : Bool) → nat_lt e 256 ≡ t → (mu : Option (List ℕ)) →
+        label_of (small (Some e)) mu ≡ label_of (Some e) mu
     by_test true is mu = ap (λ t. label_of (cond t (Some e) None) mu) is
     by_test false is None = ap (λ t. label_of (cond t (Some e) None) None) is
     by_test false is (Some mu) =
@@ -52,7 +55,8 @@ fits e i m p h =
     and_true_right (is_e e) (nat_lt i e && nat_le (degree p + m) DEGREE_LIMIT) h in
     let e_most : e ≤ 64 = leb-true e 64 (and_true_right (nat_le 2 e) (nat_le e 64) e_test) in
     let i_less : i < e = ltb-true i e (and_true_left (nat_lt i e) (nat_le (degree p + m) DEGREE_LIMIT) rest) in
-    let m_most : degree p + m ≤ DEGREE_LIMIT = leb-true (degree p + m) DEGREE_LIMIT (and_true_right (nat_lt i e) (nat_le (degree p + m) DEGREE_LIMIT) rest) in
+    let m_most : degree p + m ≤ DEGREE_LIMIT =
+    leb-true (degree p + m) DEGREE_LIMIT (and_true_right (nat_lt i e) (nat_le (degree p + m) DEGREE_LIMIT) rest) in
     (omega arith, omega arith, omega arith)
 
 -- Where a number is past a byte there is no command.
@@ -86,7 +90,9 @@ induce_of-small (Some e) (Some i) (Some m) (Some p) =
     by_e (nat_lt e 256) refl (nat_lt i 256) refl (nat_lt m 256) refl
   where
     refused : ((e < 256) × (i < 256) × (m < 256) → ⊥) → None ≡ induce_of (Some e) (Some i) (Some m) (Some p)
-    refused unfit = sym (ap (λ t. cond t (Some (Induce e i m p)) None) (not_true (can_induce e i m p) (λ h. unfit (fits e i m p h))))
+    refused unfit =
+        sym (ap (λ t. cond t (Some (Induce e i m p)) None)
+        (not_true (can_induce e i m p) (λ h. unfit (fits e i m p h))))
 
     by_e : (a : Bool) → nat_lt e 256 ≡ a → (b : Bool) → nat_lt i 256 ≡ b → (c : Bool) → nat_lt m 256 ≡ c →
         induce_small (Some e) (Some i) (Some m) (Some p)
@@ -138,7 +144,8 @@ pub induce_too_many : (text e r i s m p word rest : List ℕ) → words text ≡
     words s ≡ m ∷ words p → words p ≡ word ∷ words rest → induce_from (words text) ≡ None
 induce_too_many text e r i s m p word rest a b c d =
     let next = first_word rest in
-    ap induce_from (a ∙ ap (λ ws. e ∷ ws) (b ∙ ap (λ ws. i ∷ ws) (c ∙ ap (λ ws. m ∷ ws) (d ∙ ap (λ ws. word ∷ ws) next.2))))
+    ap induce_from
+    (a ∙ ap (λ ws. e ∷ ws) (b ∙ ap (λ ws. i ∷ ws) (c ∙ ap (λ ws. m ∷ ws) (d ∙ ap (λ ws. word ∷ ws) next.2))))
 
 -- ---- the first word
 
@@ -159,7 +166,9 @@ begins line first rest = words line ≡ first ∷ words rest
 
 choice : List ℕ → Bool → Bool → Bool → Option Command
 choice rest a b c =
-    cond a (induce_from (words rest)) (cond b (with_label Ladders (label_from (words rest))) (cond c (with_label Ladder (label_from (words rest))) None))
+    cond a (induce_from (words rest))
+    (cond b (with_label Ladders (label_from (words rest)))
+    (cond c (with_label Ladder (label_from (words rest))) None))
 
 by_word : (line first rest : List ℕ) (a b c : Bool) → begins line first rest → is_text first (codes "induce") ≡ a →
     is_text first (codes "ladders") ≡ b → is_text first (codes "ladder") ≡ c → command_of line ≡ choice rest a b c
@@ -172,7 +181,8 @@ by_word line first rest a b c is ia ib ic =
 pub first_induce : (line first rest : List ℕ) → begins line first rest → is_text first (codes "induce") ≡ true →
     command_of line ≡ induce_from (words rest)
 unfolding choice
-first_induce line first rest is a = by_word line first rest true (is_text first (codes "ladders")) (is_text first (codes "ladder")) is a refl refl
+first_induce line first rest is a =
+    by_word line first rest true (is_text first (codes "ladders")) (is_text first (codes "ladder")) is a refl refl
 
 pub first_ladders : (line first rest : List ℕ) → begins line first rest → is_text first (codes "induce") ≡ false →
     is_text first (codes "ladders") ≡ true → command_of line ≡ with_label Ladders (label_from (words rest))
@@ -211,7 +221,8 @@ induce_from_is (e ∷ i ∷ []) = tt
 induce_from_is (e ∷ i ∷ m ∷ []) = tt
 induce_from_is (e ∷ i ∷ m ∷ p ∷ q ∷ ws) = tt
 
-labelled : (command : ℕ → List ℕ → Command) → ((e : ℕ) (mu : List ℕ) → can_label e mu ≡ true → IsCommand (command e mu)) →
+labelled : (command : ℕ → List ℕ → Command) →
+    ((e : ℕ) (mu : List ℕ) → can_label e mu ≡ true → IsCommand (command e mu)) →
     (e : Option ℕ) (mu : Option (List ℕ)) → IfSome (with_label command (label_of e mu)) IsCommand
 labelled command h None mu = tt
 labelled command h (Some e) None = tt
@@ -222,7 +233,8 @@ labelled command h (Some e) (Some mu) = by_test (can_label e mu) refl
         subst (λ t. IfSome (with_label command (cond t (Some (e, mu)) None)) IsCommand) (sym is) (h e mu is)
     by_test false is = subst (λ t. IfSome (with_label command (cond t (Some (e, mu)) None)) IsCommand) (sym is) tt
 
-label_from_is : (command : ℕ → List ℕ → Command) → ((e : ℕ) (mu : List ℕ) → can_label e mu ≡ true → IsCommand (command e mu)) →
+label_from_is : (command : ℕ → List ℕ → Command) →
+    ((e : ℕ) (mu : List ℕ) → can_label e mu ≡ true → IsCommand (command e mu)) →
     (ws : List (List ℕ)) → IfSome (with_label command (label_from ws)) IsCommand
 label_from_is command h (e ∷ mu ∷ []) = labelled command h (number_of e) (partition_of DEGREE_LIMIT mu)
 label_from_is command h [] = tt

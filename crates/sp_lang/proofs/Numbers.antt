@@ -16,7 +16,8 @@ small_number-same word le same =
     ap (λ t. small (cond t (Some (digits_value word)) None)) same
     ∙ ap (λ t. cond t (Some (digits_value word)) None) (lt-ltb (digits_value word) 256 (omega arith))
 
-pub small_number-other : (word : List ℕ) → is_text (decimal (digits_value word)) word ≡ false → small (number_of word) ≡ None
+pub small_number-other : (word : List ℕ) → is_text (decimal (digits_value word)) word ≡ false →
+    small (number_of word) ≡ None
 unfolding number_of
 small_number-other word other = ap (λ t. small (cond t (Some (digits_value word)) None)) other
 
@@ -33,7 +34,8 @@ small_number-large word lt =
 pub small_number-long : (word : List ℕ) → 3 < length word → small (number_of word) ≡ None
 small_number-long word long = by_test (is_text (decimal (digits_value word)) word) refl
   where
-    by_value : is_text (decimal (digits_value word)) word ≡ true → (digits_value word < 256) ⊎ (255 < digits_value word) →
+    by_value : is_text (decimal (digits_value word)) word ≡ true →
+        (digits_value word < 256) ⊎ (255 < digits_value word) →
         small (number_of word) ≡ None
     by_value same (inr large) = small_number-large word large
     by_value same (inl low) =

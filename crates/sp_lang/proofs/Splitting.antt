@@ -1,5 +1,6 @@
 -- The words of a text by the place of its first space.
-use Rattle.std.proofs.Common.{◌≡◌, ℕ, suc, ◌+◌, ◌-◌, ◌<◌, ◌≤◌, ◌⊎◌, inl, inr, eqb, cond, not, Bool, true, false, List, [], ◌∷◌}
+use Rattle.std.proofs.Common.{◌≡◌, ℕ, suc, ◌+◌, ◌-◌, ◌<◌, ◌≤◌, ◌⊎◌, inl, inr, eqb, cond, not, Bool, true, false, List}
+use Rattle.std.proofs.Common.{[], ◌∷◌}
 use Rattle.std.proofs.Common.{take, drop, length, refl, sym, ◌∙◌, ap, ap₂, subst, arith, lt-ltb, le-ltb}
 use Rattle.std.proofs.Common.{length-drop}
 use Rattle.std.proofs.lemmas.List.{take_all}
@@ -44,7 +45,8 @@ words_cases (b ∷ bs) = by_byte (eqb b 32) refl (words_cases bs)
         subst (λ k. SplitsAt (b ∷ bs) k ⊎ IsWord (b ∷ bs) k) (sym none) (inl (omega arith, split))
     by_byte false is rest =
         let more : before_space (b ∷ bs) ≡ 1 + before_space bs = ap (λ t. cond (not t) (1 + before_space bs) 0) is in
-        let kept : words (b ∷ bs) ≡ onto_first b (words bs) = ap (λ t. cond t ([] ∷ words bs) (onto_first b (words bs))) is in
+        let kept : words (b ∷ bs) ≡ onto_first b (words bs) =
+        ap (λ t. cond t ([] ∷ words bs) (onto_first b (words bs))) is in
         subst (λ k. SplitsAt (b ∷ bs) k ⊎ IsWord (b ∷ bs) k) (sym more) (no_space b bs (before_space bs) kept rest)
 
 -- What `position` finds is the first space.
@@ -55,20 +57,24 @@ words_split text = by_case (words_cases text)
     by_case : SplitsAt text (before_space text) ⊎ IsWord text (before_space text) →
         MatchOption (position (λ b. eqb b 32) text) (words text ≡ text ∷ []) (λ k. SplitsAt text k)
     by_case (inl split) =
-        subst (λ t. MatchOption (cond t (Some (before_space text)) None) (words text ≡ text ∷ []) (λ k. SplitsAt text k))
+        subst (λ t. MatchOption (cond t (Some (before_space text)) None) (words text ≡ text ∷ [])
+        (λ k. SplitsAt text k))
         (sym (lt-ltb (before_space text) (length text) split.0)) split
     by_case (inr whole) =
-        subst (λ t. MatchOption (cond t (Some (before_space text)) None) (words text ≡ text ∷ []) (λ k. SplitsAt text k))
+        subst (λ t. MatchOption (cond t (Some (before_space text)) None) (words text ≡ text ∷ [])
+        (λ k. SplitsAt text k))
         (sym (le-ltb (before_space text) (length text) whole.0)) whole.1
 
 pub split_at : (text : List ℕ) (k : ℕ) → Some k ≡ position (λ b. eqb b 32) text →
     words text ≡ take k text ∷ words (take (length text - (k + 1)) (drop (k + 1) text))
 split_at text k is =
-    let split = subst (λ o. MatchOption o (words text ≡ text ∷ []) (λ k. SplitsAt text k)) (sym is) (words_split text) in
+    let split =
+    subst (λ o. MatchOption o (words text ≡ text ∷ []) (λ k. SplitsAt text k)) (sym is) (words_split text) in
     split.1 ∙ ap (λ rest. take k text ∷ words rest) (sym whole)
   where
     whole : take (length text - (k + 1)) (drop (k + 1) text) ≡ drop (k + 1) text
     whole = take_all (length text - (k + 1)) (drop (k + 1) text) (omega (arith, length-drop (k + 1) text))
 
 pub no_split : (text : List ℕ) → None ≡ position (λ b. eqb b 32) text → words text ≡ text ∷ []
-no_split text is = subst (λ o. MatchOption o (words text ≡ text ∷ []) (λ k. SplitsAt text k)) (sym is) (words_split text)
+no_split text is =
+    subst (λ o. MatchOption o (words text ≡ text ∷ []) (λ k. SplitsAt text k)) (sym is) (words_split text)

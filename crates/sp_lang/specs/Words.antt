@@ -1,5 +1,6 @@
 -- The words of a line, and what they stand for. This project's own.
-use Rattle.std.specs.Prelude.{ℕ, ◌+◌, ◌-◌, ◌*◌, ◌==◌, nat_eq, Bool, cond, if◌then◌else◌, List, [], ◌∷◌, flat_map, find, fold, Option, Some, None}
+use Rattle.std.specs.Prelude.{ℕ, ◌+◌, ◌-◌, ◌*◌, ◌==◌, nat_eq, Bool, cond, if◌then◌else◌, List, [], ◌∷◌, flat_map, find}
+use Rattle.std.specs.Prelude.{fold, Option, Some, None}
 use Rattle.std.specs.List.{range_with_len}
 use Rattle.std.specs.Cmp.Lexicographic.{pointwise}
 use Rattle.std.specs.Fmt.{decimal}

@@ -26,7 +26,8 @@ unfolding sources
 all_sources e i m n after total =
     let same : degree after - m ≡ n = omega (arith, total) in
     all_filter (IsSource e i m n after) (λ before. is_move e i m before after) (partitions (degree after - m))
-    (all_mono (IsPartitionOf n) (λ x. is_move e i m x after ≡ true → IsSource e i m n after x) (partitions (degree after - m))
+    (all_mono (IsPartitionOf n) (λ x. is_move e i m x after ≡ true → IsSource e i m n after x)
+    (partitions (degree after - m))
     (λ x h t. record { partition = h; move = t })
     (subst (λ k. AllByRecursion (IsPartitionOf n) (partitions k)) (sym same) (all_partitions n)))
 
@@ -107,6 +108,7 @@ unit_weight e i m p =
     every [] = tt
     every (x ∷ xs) = (
       unit_sizes_within p (filter (λ before. is_move e i m before x) (partitions (degree x - m)))
-          (Ascending-filter (λ before. is_move e i m before x) (partitions (degree x - m)) (partitions_ascend (degree x - m))),
+          (Ascending-filter (λ before. is_move e i m before x) (partitions (degree x - m))
+          (partitions_ascend (degree x - m))),
       every xs,
     )

@@ -1,5 +1,6 @@
 -- The text of ladders, step by step.
-use Rattle.std.proofs.Common.{◌≡◌, ℕ, ◌-◌, ◌≤◌, List, [], ◌∷◌, ◌++◌, map, flat_map, take, drop, length, get_or, refl, sym, ◌∙◌, ap, arith}
+use Rattle.std.proofs.Common.{◌≡◌, ℕ, ◌-◌, ◌≤◌, List, [], ◌∷◌, ◌++◌, map, flat_map, take, drop, length, get_or, refl}
+use Rattle.std.proofs.Common.{sym, ◌∙◌, ap, arith}
 use Rattle.std.proofs.Common.{append_assoc}
 use Rattle.std.specs.Prelude.{codes, OnOk, Result, Ok, Err}
 use Rattle.std.proofs.lemmas.List.{take_all}
@@ -25,7 +26,8 @@ joined_steps first [] = sym (append-nil (step_text first))
 joined_steps first (next ∷ others) =
     ap (λ text. step_text first ++ codes " " ++ text) (joined_steps next others)
     ∙ append_assoc (step_text first) (codes " ") (step_text next ++ flat_map later_step_text others)
-    ∙ ap (λ text. step_text first ++ text) (sym (append_assoc (codes " ") (step_text next) (flat_map later_step_text others))
+    ∙ ap (λ text. step_text first ++ text)
+    (sym (append_assoc (codes " ") (step_text next) (flat_map later_step_text others))
     ∙ sym (flat_map-cons later_step_text next others))
 
 pub text_of_steps : (items : List Step) (d : Step) → 1 ≤ length items →
@@ -34,7 +36,8 @@ pub text_of_steps : (items : List Step) (d : Step) → 1 ≤ length items →
 text_of_steps [] d h = absurd (omega arith)
 text_of_steps (first ∷ others) d h =
     joined_steps first others
-    ∙ ap (λ rest. step_text first ++ flat_map later_step_text rest) (sym (take_all (length (first ∷ others) - 1) others (omega arith)))
+    ∙ ap (λ rest. step_text first ++ flat_map later_step_text rest)
+    (sym (take_all (length (first ∷ others) - 1) others (omega arith)))
 
 map-steps : (e : ℕ) (mu ls : List ℕ) → map (ladder_text e mu) ls ≡ map step_text (map (step_on e mu) ls)
 map-steps e mu [] = refl

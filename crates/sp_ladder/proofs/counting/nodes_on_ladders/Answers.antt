@@ -17,19 +17,24 @@ loop-part-init c = record {
 
 pub overflow_add-row : goal.overflow_add-row
 overflow_add-row c =
-    let held : IsHeld c.parts-part-items.result.now = subst IsHeld (sym c.parts-part-items.ensures.parts) c.parts-part-items.ensures.held in
+    let held : IsHeld c.parts-part-items.result.now =
+    subst IsHeld (sym c.parts-part-items.ensures.parts) c.parts-part-items.ensures.held in
     omega (arith, rows_few c.parts-part-items.result.now held)
 
 pub count_row-requires-clause-small : goal.count_row-requires-clause-small
 count_row-requires-clause-small c =
-    let held : IsHeld c.parts-part-items.result.now = subst IsHeld (sym c.parts-part-items.ensures.parts) c.parts-part-items.ensures.held in
+    let held : IsHeld c.parts-part-items.result.now =
+    subst IsHeld (sym c.parts-part-items.ensures.parts) c.parts-part-items.ensures.held in
     let here = row c.args.e c.loop-part.part-index c.parts-part-items.result.now held c.loop-part-test.true in
-    subst (λ r. r + 1 + 63 * (get_or c.parts-part-items.result.now c.loop-part.part-index 0 - 1) < LADDERS) (sym c.loop-part.invariant.at)
-    (row_small c.loop-part.part-index (get_or c.parts-part-items.result.now c.loop-part.part-index 0) here.positive here.few)
+    subst (λ r. r + 1 + 63 * (get_or c.parts-part-items.result.now c.loop-part.part-index 0 - 1) < LADDERS)
+    (sym c.loop-part.invariant.at)
+    (row_small c.loop-part.part-index (get_or c.parts-part-items.result.now c.loop-part.part-index 0) here.positive
+    here.few)
 
 pub count_row-requires-clause-room : goal.count_row-requires-clause-room
 count_row-requires-clause-room c l lt =
-    let held : IsHeld c.parts-part-items.result.now = subst IsHeld (sym c.parts-part-items.ensures.parts) c.parts-part-items.ensures.held in
+    let held : IsHeld c.parts-part-items.result.now =
+    subst IsHeld (sym c.parts-part-items.ensures.parts) c.parts-part-items.ensures.held in
     let here = row c.args.e c.loop-part.part-index c.parts-part-items.result.now held c.loop-part-test.true in
     omega (arith, here.room l, c.loop-part.invariant.counted l lt)
 
@@ -49,5 +54,6 @@ pub returns-clause-counts : goal.returns-clause-counts
 unfolding on_ladder
 returns-clause-counts c = λ l lt.
     let all : take c.loop-part.part-index c.parts-part-items.result.now ≡ c.args.mu.now =
-    take_all c.loop-part.part-index c.parts-part-items.result.now c.loop-part-test.false ∙ c.parts-part-items.ensures.parts in
+    take_all c.loop-part.part-index c.parts-part-items.result.now c.loop-part-test.false
+    ∙ c.parts-part-items.ensures.parts in
     c.loop-part.invariant.counted l lt ∙ ap (λ parts. count_on c.args.e l (nodes parts)) all

@@ -20,7 +20,8 @@ returns-then-eq c =
     let same : is_text (decimal (digits_value c.args.word.now)) c.args.word.now ≡ true =
     ap (λ t. pointwise eqb t c.args.word.now) (sym text) ∙ sym c.eq.ensures ∙ c.if-eq.true in
     ap Some c.digits_value-value.ensures
-    ∙ sym (small_number-same c.args.word.now (subst (λ n. n ≤ 255) c.digits_value-value.ensures c.if-value-gt255.false) same)
+    ∙ sym (small_number-same c.args.word.now (subst (λ n. n ≤ 255) c.digits_value-value.ensures c.if-value-gt255.false)
+    same)
 
 pub returns-else-eq : goal.returns-else-eq
 returns-else-eq c =

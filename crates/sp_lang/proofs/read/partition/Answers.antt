@@ -13,7 +13,8 @@ pub returns-then-degree-le-DEGREE_LIMIT : goal.returns-then-degree-le-DEGREE_LIM
 returns-then-degree-le-DEGREE_LIMIT c =
     let p = c.in-Ok.p in
     let held : IsHeld p = c.degree.ensures.held in
-    let small : degree p ≤ DEGREE_LIMIT = subst (λ n. n ≤ DEGREE_LIMIT) c.degree.ensures.sum c.if-degree-le-DEGREE_LIMIT.true in
+    let small : degree p ≤ DEGREE_LIMIT =
+    subst (λ n. n ≤ DEGREE_LIMIT) c.degree.ensures.sum c.if-degree-le-DEGREE_LIMIT.true in
     sym (partition_of-named DEGREE_LIMIT c.args.word.now p (record { partition = held.partition; small = small })
     ((c.in-Ok.ensures.canonical p held).0 refl)
     (λ q up text. let same = (c.in-Ok.ensures.canonical q (held_up_to q up)).1 text in cc))

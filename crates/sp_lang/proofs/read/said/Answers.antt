@@ -17,19 +17,24 @@ returns-then-eq-2 c =
     c.ladders.ensures
     ∙ sym (first_ladders c.args.line.now c.in-Some.first.now c.in-Some.rest.now c.in-Some.ensures
     (ap (pointwise eqb c.in-Some.first.now) (sym c.as_slice.ensures) ∙ sym c.eq.ensures ∙ c.if-eq.false)
-    (ap (pointwise eqb c.in-Some.first.now) (sym c.as_slice-else-eq.ensures) ∙ sym c.eq-else-eq.ensures ∙ c.if-eq-2.true))
+    (ap (pointwise eqb c.in-Some.first.now) (sym c.as_slice-else-eq.ensures) ∙ sym c.eq-else-eq.ensures
+    ∙ c.if-eq-2.true))
 
 pub returns-then-eq-3 : goal.returns-then-eq-3
 returns-then-eq-3 c =
     c.ladder.ensures
     ∙ sym (first_ladder c.args.line.now c.in-Some.first.now c.in-Some.rest.now c.in-Some.ensures
     (ap (pointwise eqb c.in-Some.first.now) (sym c.as_slice.ensures) ∙ sym c.eq.ensures ∙ c.if-eq.false)
-    (ap (pointwise eqb c.in-Some.first.now) (sym c.as_slice-else-eq.ensures) ∙ sym c.eq-else-eq.ensures ∙ c.if-eq-2.false)
-    (ap (pointwise eqb c.in-Some.first.now) (sym c.as_slice-else-eq-2.ensures) ∙ sym c.eq-else-eq-2.ensures ∙ c.if-eq-3.true))
+    (ap (pointwise eqb c.in-Some.first.now) (sym c.as_slice-else-eq.ensures) ∙ sym c.eq-else-eq.ensures
+    ∙ c.if-eq-2.false)
+    (ap (pointwise eqb c.in-Some.first.now) (sym c.as_slice-else-eq-2.ensures) ∙ sym c.eq-else-eq-2.ensures
+    ∙ c.if-eq-3.true))
 
 pub returns-else-eq-3 : goal.returns-else-eq-3
 returns-else-eq-3 c =
     sym (first_other c.args.line.now c.in-Some.first.now c.in-Some.rest.now c.in-Some.ensures
     (ap (pointwise eqb c.in-Some.first.now) (sym c.as_slice.ensures) ∙ sym c.eq.ensures ∙ c.if-eq.false)
-    (ap (pointwise eqb c.in-Some.first.now) (sym c.as_slice-else-eq.ensures) ∙ sym c.eq-else-eq.ensures ∙ c.if-eq-2.false)
-    (ap (pointwise eqb c.in-Some.first.now) (sym c.as_slice-else-eq-2.ensures) ∙ sym c.eq-else-eq-2.ensures ∙ c.if-eq-3.false))
+    (ap (pointwise eqb c.in-Some.first.now) (sym c.as_slice-else-eq.ensures) ∙ sym c.eq-else-eq.ensures
+    ∙ c.if-eq-2.false)
+    (ap (pointwise eqb c.in-Some.first.now) (sym c.as_slice-else-eq-2.ensures) ∙ sym c.eq-else-eq-2.ensures
+    ∙ c.if-eq-3.false))

@@ -6,11 +6,15 @@ use Rattle.sp_power.proofs.Units.{unit_within, all_more, few_powers}
 use Rattle.sp_power.proofs.tests.induced.Goals as goal
 
 pub induce-requires-clause-powers : goal.induce-requires-clause-powers
-induce-requires-clause-powers g c = unit_within half_power_limit c.in_ok-p.p c.in_ok-v.v c.degree.ensures.held.partition c.in_ok-v.ensures
+induce-requires-clause-powers g c =
+    unit_within half_power_limit c.in_ok-p.p c.in_ok-v.v c.degree.ensures.held.partition c.in_ok-v.ensures
 
 pub returns : goal.returns
 returns g c =
     all_more (c.args.m * (c.in_ok-v.v.degree + 1) + 0) 1000 c.expect.result.entries
-    (few_powers c.args.m c.in_ok-v.v.degree (omega arith) (omega (arith, ap (λ v. v.degree) c.in_ok-v.ensures, c.degree.ensures.sum)))
-    (IfOk-at_ok (λ w. (d : ℕ) → AllWithin d c.in_ok-v.v.entries → AllWithin (c.args.m * (c.in_ok-v.v.degree + 1) + d) w.entries)
-    c.expect.ensures c.induce.ensures.powers 0 (unit_within 0 c.in_ok-p.p c.in_ok-v.v c.degree.ensures.held.partition c.in_ok-v.ensures))
+    (few_powers c.args.m c.in_ok-v.v.degree (omega arith)
+    (omega (arith, ap (λ v. v.degree) c.in_ok-v.ensures, c.degree.ensures.sum)))
+    (IfOk-at_ok
+    (λ w. (d : ℕ) → AllWithin d c.in_ok-v.v.entries → AllWithin (c.args.m * (c.in_ok-v.v.degree + 1) + d) w.entries)
+    c.expect.ensures c.induce.ensures.powers 0
+    (unit_within 0 c.in_ok-p.p c.in_ok-v.v c.degree.ensures.held.partition c.in_ok-v.ensures))

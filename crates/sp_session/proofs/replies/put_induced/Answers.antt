@@ -5,16 +5,19 @@ use Rattle.sp_session.proofs.Induced.{induced, never_too_large, powers_small}
 use Rattle.sp_session.proofs.replies.put_induced.Goals as goal
 
 pub induce-requires-clause-powers : goal.induce-requires-clause-powers
-induce-requires-clause-powers c = powers_small c.args.p.now c.in_ok-one.one c.in_ok-one.ensures.partition c.in_ok-one.ensures.vector
+induce-requires-clause-powers c =
+    powers_small c.args.p.now c.in_ok-one.one c.in_ok-one.ensures.partition c.in_ok-one.ensures.vector
 
 pub returns-in-Ok : goal.returns-in-Ok
 returns-in-Ok c =
     on_ok c.print.result _ _
     (λ is. is ∙ ap (λ es. c.args.out.now.items ++ vector_text es)
-    (induced c.args.p.now c.in_ok-one.one c.in_ok-one.ensures.partition c.in_ok-one.ensures.vector c.args.e c.args.i c.args.m
+    (induced c.args.p.now c.in_ok-one.one c.in_ok-one.ensures.partition c.in_ok-one.ensures.vector c.args.e c.args.i
+    c.args.m
     c.in-Ok.vector c.in-Ok.ensures.ok)) c.print.ensures.text
 
 pub unreachable-requires : goal.unreachable-requires
 unreachable-requires c =
-    never_too_large c.args.p.now c.in_ok-one.one c.in_ok-one.ensures.partition c.in_ok-one.ensures.vector c.args.e c.args.i c.args.m
+    never_too_large c.args.p.now c.in_ok-one.one c.in_ok-one.ensures.partition c.in_ok-one.ensures.vector c.args.e
+    c.args.i c.args.m
     c.args.limit c.requires.least (c.in-Err-TooLarge.ensures.too_large (let fault = c.in-Err-TooLarge.field-0-is in cc))
