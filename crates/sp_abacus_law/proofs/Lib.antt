@@ -4,3 +4,4 @@ pub mod Shown
 pub mod Sums
 pub mod Runners
 pub mod Weight
+pub mod Bounds
