@@ -1,0 +1,14 @@
+//! The abacus of a partition: beta numbers, core, weight and quotient.
+//!
+//! The bead at a number stands on runner number mod `e`, at place number div `e`. `e` is from 2 to 64 throughout, and
+//! nothing here takes memory.
+#![tactic(auto)]
+
+mod beads;
+mod parts;
+
+pub use beads::beta;
+pub use parts::{core, quotient, weight};
+
+#[cfg(test)]
+mod tests;
