@@ -17,8 +17,11 @@ use Rattle.sp_abacus_law.proofs.Weight.{degree-core, weight-runners, runner-shor
 -- Numbers are below their count and the degree of what they show.
 pub falls-small : (bs : List ℕ) → Falls bs → AllByRecursion (λ c. c < degree (shown bs) + length bs) bs
 falls-small [] f = tt
-falls-small (b ∷ below) f = (first, all_weaken (λ c. c < b) (λ c. c < degree (shown (b ∷ below)) + suc (length below))
-    below (λ c lt. omega (arith, first)) f.0)
+falls-small (b ∷ below) f = (
+  first,
+  all_weaken (λ c. c < b) (λ c. c < degree (shown (b ∷ below)) + suc (length below))
+      below (λ c lt. omega (arith, first)) f.0,
+)
   where
     settle : (b ≤ length below) ⊎ (length below < b) → b < degree (shown (b ∷ below)) + suc (length below)
     settle (inl h) = omega arith

@@ -5,3 +5,7 @@ pub mod Sums
 pub mod Runners
 pub mod Weight
 pub mod Bounds
+pub mod Lifted
+pub mod Members
+pub mod MoreBeads
+pub mod CoreQuotient

@@ -67,7 +67,7 @@ length-numbers (p ∷ parts) (suc k) = ap suc (length-numbers parts k)
 
 -- ---- they descend
 
-numbers-below : (parts : List ℕ) (k q : ℕ) → IsPartition parts → slice_index parts 0 ≤ q →
+pub numbers-below : (parts : List ℕ) (k q : ℕ) → IsPartition parts → slice_index parts 0 ≤ q →
     AllByRecursion (λ c. c < q + k) (numbers parts k)
 numbers-below parts zero q h le = tt
 numbers-below [] (suc k) q h le = (

@@ -175,8 +175,11 @@ down-range (suc n) =
 abbrev pub under : ℕ → (ℕ → ℕ) → ℕ → List ℕ
 under e height n = filter (λ b. nat_lt (b / e) (height (b % e))) (down n)
 
-pub slid-under : (e : ℕ) (parts : List ℕ) →
-    slid e parts ≡ under e (λ i. length (runner e (beta e parts) i)) (length (beta e parts) * e)
+-- The beads of an abacus after all have slid down.
+abbrev pub fallen : ℕ → List ℕ → List ℕ
+fallen e bs = under e (λ i. length (runner e bs i)) (length bs * e)
+
+pub slid-under : (e : ℕ) (parts : List ℕ) → slid e parts ≡ fallen e (beta e parts)
 slid-under e parts =
     ap (λ bs. filter (λ b. nat_lt (b / e) (length (runner e (beta e parts) (b % e)))) bs)
     (down-range (length (beta e parts) * e))

@@ -14,7 +14,7 @@ use Rattle.sp_abacus_law.proofs.Falling.{length-down, down-falls, falls-filter}
 use Rattle.sp_abacus_law.proofs.Numbers.{shown-beta, beta-falls}
 use Rattle.sp_abacus_law.proofs.Shown.{degree-shown, shown-partition}
 use Rattle.sp_abacus_law.proofs.Sums.{sum-alike, sum-plus, sum-times, length-sum, sum-classes}
-use Rattle.sp_abacus_law.proofs.Runners.{runner-falls, runner-sum, slid-under, runner-under}
+use Rattle.sp_abacus_law.proofs.Runners.{runner-falls, runner-sum, fallen, slid-under, runner-under}
 
 -- ---- numbers by their runners
 
@@ -52,32 +52,38 @@ runner-short e bs i =
 
 -- ---- the beads slid down
 
-pub runner-slid : (e : ℕ) (parts : List ℕ) (i : ℕ) → i < e →
-    runner e (slid e parts) i ≡ down (length (runner e (beta e parts) i))
-runner-slid e parts i hi =
-    ap (λ bs. runner e bs i) (slid-under e parts)
-    ∙ runner-under e (height e (beta e parts)) (length (beta e parts)) i hi
-    ∙ ap down (least (length (beta e parts)) (height e (beta e parts) i) (runner-short e (beta e parts) i))
+pub runner-fallen : (e : ℕ) (bs : List ℕ) (i : ℕ) → i < e → runner e (fallen e bs) i ≡ down (length (runner e bs i))
+runner-fallen e bs i hi =
+    runner-under e (height e bs) (length bs) i hi
+    ∙ ap down (least (length bs) (height e bs i) (runner-short e bs i))
   where
     least : (k n : ℕ) → n ≤ k → min k n ≡ n
     least k n h = omega arith
 
-pub slid-falls : (e : ℕ) (parts : List ℕ) → Falls (slid e parts)
-slid-falls e parts =
-    subst Falls (sym (slid-under e parts))
-    (falls-filter (λ b. nat_lt (b / e) (height e (beta e parts) (b % e))) (down (length (beta e parts) * e))
-    (down-falls (length (beta e parts) * e)))
+pub fallen-falls : (e : ℕ) (bs : List ℕ) → Falls (fallen e bs)
+fallen-falls e bs =
+    falls-filter (λ b. nat_lt (b / e) (height e bs (b % e))) (down (length bs * e)) (down-falls (length bs * e))
 
-pub length-slid : (e : ℕ) (parts : List ℕ) → 1 ≤ e → length (slid e parts) ≡ length (beta e parts)
-length-slid e parts he =
-    length-runners e (slid e parts) he
-    ∙ sum-alike (height e (slid e parts)) (height e (beta e parts)) (range_with_len 0 e)
-    (range_all (λ i. height e (slid e parts) i ≡ height e (beta e parts) i) 0 e (λ i lo hi.
-    ap length (runner-slid e parts i (inside e i hi)) ∙ length-down (height e (beta e parts) i)))
-    ∙ sym (length-runners e (beta e parts) he)
+pub length-fallen : (e : ℕ) (bs : List ℕ) → 1 ≤ e → length (fallen e bs) ≡ length bs
+length-fallen e bs he =
+    length-runners e (fallen e bs) he
+    ∙ sum-alike (height e (fallen e bs)) (height e bs) (range_with_len 0 e)
+    (range_all (λ i. height e (fallen e bs) i ≡ height e bs i) 0 e (λ i lo hi.
+    ap length (runner-fallen e bs i (inside e i hi)) ∙ length-down (height e bs i)))
+    ∙ sym (length-runners e bs he)
   where
     inside : (e i : ℕ) → i < 0 + e → i < e
     inside e i h = omega arith
+
+pub runner-slid : (e : ℕ) (parts : List ℕ) (i : ℕ) → i < e →
+    runner e (slid e parts) i ≡ down (length (runner e (beta e parts) i))
+runner-slid e parts i hi = ap (λ bs. runner e bs i) (slid-under e parts) ∙ runner-fallen e (beta e parts) i hi
+
+pub slid-falls : (e : ℕ) (parts : List ℕ) → Falls (slid e parts)
+slid-falls e parts = subst Falls (sym (slid-under e parts)) (fallen-falls e (beta e parts))
+
+pub length-slid : (e : ℕ) (parts : List ℕ) → 1 ≤ e → length (slid e parts) ≡ length (beta e parts)
+length-slid e parts he = ap length (slid-under e parts) ∙ length-fallen e (beta e parts) he
 
 pub core-partition : (e : ℕ) (parts : List ℕ) → IsPartition (core e parts)
 core-partition e parts = shown-partition (slid e parts) (slid-falls e parts)

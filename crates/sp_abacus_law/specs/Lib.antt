@@ -1,1 +1,2 @@
 pub mod Beads
+pub mod Combined
