@@ -86,7 +86,8 @@ filter-more t n zero h = ap (λ m. filter t (down m)) (plain n)
     plain n = omega arith
 filter-more t n (suc d) h =
     ap (λ m. filter t (down m)) (next n d)
-    ∙ ap (λ v. cond v ((n + d) ∷ filter t (down (n + d))) (filter t (down (n + d)))) (h (n + d) (omega arith) (omega arith))
+    ∙ ap (λ v. cond v ((n + d) ∷ filter t (down (n + d))) (filter t (down (n + d))))
+    (h (n + d) (omega arith) (omega arith))
     ∙ filter-more t n d (λ b lo hi. h b lo (omega arith))
   where
     next : (n d : ℕ) → n + suc d ≡ suc (n + d)
@@ -153,4 +154,5 @@ slid-small e parts he h n le =
                 absurd (low (length (beta e parts)) (b / e) (b % e) k lo (div-add-mod b e) (mod-lt b he))
               where
                 low : (k q r : ℕ) → q < k → k * e ≤ b → e * q + r ≡ b → r < e → ⊥
-                low k q r lt le eq small = let more : e * (q + 1) ≤ e * k = mul-le-mul_left e (omega arith) in omega arith
+                low k q r lt le eq small =
+                    let more : e * (q + 1) ≤ e * k = mul-le-mul_left e (omega arith) in omega arith

@@ -9,3 +9,4 @@ pub mod Lifted
 pub mod Members
 pub mod MoreBeads
 pub mod CoreQuotient
+pub mod Placing

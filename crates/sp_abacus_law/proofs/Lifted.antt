@@ -92,6 +92,7 @@ runner-lifted e i (b ∷ bs) hi =
     next_place : (b + e) / e ≡ b / e + 1
     next_place = ap (λ n. n / e) place ∙ div-mul-add (b / e + 1) e (b % e) (mod-lt b (omega arith))
 
-    tested : (v : Bool) (r : List ℕ) → cond v ((b / e + 1) ∷ lifted 1 r) (lifted 1 r) ≡ lifted 1 (cond v ((b / e) ∷ r) r)
+    tested : (v : Bool) (r : List ℕ) →
+        cond v ((b / e + 1) ∷ lifted 1 r) (lifted 1 r) ≡ lifted 1 (cond v ((b / e) ∷ r) r)
     tested true r = refl
     tested false r = refl

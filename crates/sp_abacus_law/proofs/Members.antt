@@ -42,7 +42,8 @@ filter-member (suc n) (b ∷ bs) (low, f) (h, hs) =
         ap (λ v. cond (v || member n bs) (n ∷ filter (λ c. member c (b ∷ bs)) (down n))
         (filter (λ c. member c (b ∷ bs)) (down n))) (eq-eqb b n e)
         ∙ ap₂ (λ x xs. x ∷ xs) (sym e)
-        (filter_alike (λ c. member c (b ∷ bs)) (λ c. member c bs) (down n) (others (down n) (down-below n n (omega arith)))
+        (filter_alike (λ c. member c (b ∷ bs)) (λ c. member c bs) (down n)
+        (others (down n) (down-below n n (omega arith)))
         ∙ rest (subst (λ m. AllByRecursion (λ c. c < m) bs) e low))
       where
         others : (cs : List ℕ) → AllByRecursion (λ c. c < n) cs →

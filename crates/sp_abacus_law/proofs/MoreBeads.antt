@@ -9,14 +9,16 @@ use Rattle.sp_abacus_law.specs.Beads.{down, numbers}
 use Rattle.sp_abacus_law.proofs.Numbers.{numbers-nil, beta-numbers, beads-enough}
 use Rattle.sp_abacus_law.proofs.Runners.{fallen, slid-under}
 use Rattle.sp_abacus_law.proofs.Weight.{runner-fallen, fallen-falls}
-use Rattle.sp_abacus_law.proofs.Lifted.{lifted, length-lifted, lifted-falls, shown-lifted, numbers-lifted, runner-lifted}
+use Rattle.sp_abacus_law.proofs.Lifted.{lifted, length-lifted, lifted-falls, shown-lifted, numbers-lifted}
+use Rattle.sp_abacus_law.proofs.Lifted.{runner-lifted}
 use Rattle.sp_abacus_law.proofs.Members.{same-runners}
 
 -- Only the heights of the runners tell where the beads come to lie.
 pub fallen-alike : (e : ℕ) (xs ys : List ℕ) → 1 ≤ e → length xs ≡ length ys →
     ((i : ℕ) → i < e → length (runner e xs i) ≡ length (runner e ys i)) → fallen e xs ≡ fallen e ys
 fallen-alike e xs ys he len same =
-    filter_agree (λ b. nat_lt (b / e) (length (runner e xs (b % e)))) (λ b. nat_lt (b / e) (length (runner e ys (b % e))))
+    filter_agree (λ b. nat_lt (b / e) (length (runner e xs (b % e))))
+    (λ b. nat_lt (b / e) (length (runner e ys (b % e))))
     (λ b. ap (nat_lt (b / e)) (same (b % e) (mod-lt b he))) (down (length xs * e))
     ∙ ap (λ n. under_heights n) len
   where

@@ -3,7 +3,7 @@ use Rattle.std.proofs.Common.{◌≡◌, ℕ, zero, suc, ◌+◌, ◌-◌, ◌*�
 use Rattle.std.proofs.Common.{Bool, cond, length, refl, ap, ap₂, arith, ◌∙◌, sym, subst}
 use Rattle.std.proofs.Common.{slice_index, lt-ltb, le-ltb}
 use Rattle.std.specs.List.{AllByRecursion, range_with_len}
-use Rattle.sp_defs.specs.Partition.{part, IsPartition}
+use Rattle.sp_defs.specs.Partition.{part, from_one_to, IsPartition}
 use Rattle.sp_defs.specs.Abacus.{beads, beta, shown}
 use Rattle.sp_lists.proofs.Places.{all_weaken}
 use Rattle.sp_shapes.proofs.Diagram.{IsPartition-tail, IsPartition-head}
@@ -42,19 +42,20 @@ numbers-map f a (suc k) (p ∷ parts) h =
     more : (j : ℕ) → j < k → f (a + 1 + j) + j + 1 ≡ slice_index parts j + k
     more j lt = let one = h (suc j) (omega arith) in omega (arith, one, ap f (moved j))
 
-pub beta-numbers : (e : ℕ) (parts : List ℕ) → beta e parts ≡ numbers parts (beads e parts)
-beta-numbers e parts = numbers-map (λ a. part parts a + beads e parts - a) 1 (beads e parts) parts here
+pub rows-numbers : (parts : List ℕ) (k : ℕ) → map (λ a. part parts a + k - a) (from_one_to k) ≡ numbers parts k
+rows-numbers parts k = numbers-map (λ a. part parts a + k - a) 1 k parts here
   where
     place : (j : ℕ) → 1 + j - 1 ≡ j
     place j = omega arith
 
-    here : (j : ℕ) → j < beads e parts →
-        (part parts (1 + j) + beads e parts - (1 + j)) + j + 1 ≡ slice_index parts j + beads e parts
-    here j lt = settle (slice_index parts (1 + j - 1)) (slice_index parts j) (beads e parts) j
-        (ap (slice_index parts) (place j)) lt
+    here : (j : ℕ) → j < k → (part parts (1 + j) + k - (1 + j)) + j + 1 ≡ slice_index parts j + k
+    here j lt = settle (slice_index parts (1 + j - 1)) (slice_index parts j) (ap (slice_index parts) (place j))
       where
-        settle : (x y k j : ℕ) → x ≡ y → j < k → (x + k - (1 + j)) + j + 1 ≡ y + k
-        settle x y k j same lt = omega arith
+        settle : (x y : ℕ) → x ≡ y → (x + k - (1 + j)) + j + 1 ≡ y + k
+        settle x y same = omega arith
+
+pub beta-numbers : (e : ℕ) (parts : List ℕ) → beta e parts ≡ numbers parts (beads e parts)
+beta-numbers e parts = rows-numbers parts (beads e parts)
 
 pub numbers-nil : (k : ℕ) → numbers [] k ≡ down k
 numbers-nil zero = refl

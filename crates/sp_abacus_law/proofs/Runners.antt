@@ -193,7 +193,8 @@ filter-place e n (b ∷ bs) = tested (nat_lt (b / e) n) (filter-place e n bs)
     tested : (v : Bool) →
         map (λ b. b / e) (filter (λ b. nat_lt (b / e) n) bs) ≡ filter (λ p. nat_lt p n) (map (λ b. b / e) bs) →
         map (λ b. b / e) (cond v (b ∷ filter (λ b. nat_lt (b / e) n) bs) (filter (λ b. nat_lt (b / e) n) bs))
-        ≡ cond v ((b / e) ∷ filter (λ p. nat_lt p n) (map (λ b. b / e) bs)) (filter (λ p. nat_lt p n) (map (λ b. b / e) bs))
+        ≡ cond v ((b / e) ∷ filter (λ p. nat_lt p n) (map (λ b. b / e) bs))
+        (filter (λ p. nat_lt p n) (map (λ b. b / e) bs))
     tested true h = ap (λ r. (b / e) ∷ r) h
     tested false h = h
 

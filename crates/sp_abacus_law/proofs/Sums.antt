@@ -14,7 +14,8 @@ eqb-differ a b h = told (eqb_tells a b) h
     told (inl (_, e)) (inr lt) = absurd (omega arith)
     told (inr (e, _)) _ = e
 
-pub sum-alike : {X : Type 0} (f g : X → ℕ) (xs : List X) → AllByRecursion (λ x. f x ≡ g x) xs → sum_by f xs ≡ sum_by g xs
+pub sum-alike : {X : Type 0} (f g : X → ℕ) (xs : List X) → AllByRecursion (λ x. f x ≡ g x) xs →
+    sum_by f xs ≡ sum_by g xs
 sum-alike f g [] h = refl
 sum-alike f g (x ∷ xs) (h, hs) =
     sum_by-cons f x xs ∙ ap₂ (λ m n. m + n) h (sum-alike f g xs hs) ∙ sym (sum_by-cons g x xs)
@@ -74,7 +75,8 @@ sum-one x v a (suc n) lo hi =
         cond (nat_eq x a) v 0 + sum_by (λ i. cond (nat_eq x i) v 0) (range_with_len (a + 1) n) ≡ v
     settle (inl e) more =
         ap₂ (λ b m. cond b v 0 + m) (eq-eqb x a (sym e)) (sum-before x v (a + 1) n (omega arith)) ∙ plain v
-    settle (inr lt) more = ap₂ (λ b m. cond b v 0 + m) (eqb-differ x a (inr lt)) (more (omega arith) (omega arith)) ∙ plain' v
+    settle (inr lt) more =
+        ap₂ (λ b m. cond b v 0 + m) (eqb-differ x a (inr lt)) (more (omega arith) (omega arith)) ∙ plain' v
 
 -- ---- a sum by classes
 
