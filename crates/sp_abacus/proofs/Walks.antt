@@ -15,12 +15,11 @@ use Rattle.sp_defs.specs.Abacus.{runner}
 use Rattle.std.proofs.Common.{lt-ltb, le-ltb}
 use Rattle.std.proofs.lemmas.List.Elements.{filter_agree}
 use native.Mathlib.Nat.{mod-lt}
-use Rattle.std.proofs.Common.{subst, append_assoc}
-use Rattle.sp_defs.specs.Abacus.{beads, beta, slid}
-use Rattle.sp_abacus_law.specs.Beads.{Falls}
-use Rattle.sp_abacus_law.proofs.Numbers.{beta-falls}
+use Rattle.std.proofs.Common.{append_assoc}
+use Rattle.sp_defs.specs.Abacus.{beta, slid}
 use Rattle.sp_partition.specs.Held.{IsHeld}
-use Rattle.sp_abacus_law.specs.Beads.{down}
+use Rattle.sp_abacus_law.specs.Beads.{down, numbers}
+use Rattle.sp_abacus_law.proofs.Numbers.{rows-numbers}
 use Rattle.sp_abacus_law.proofs.Weight.{runner-short}
 use Rattle.sp_abacus_law.proofs.Bounds.{slid-small}
 
@@ -163,12 +162,10 @@ numbers_more parts k row x before after least is h more =
     next : 1 ≤ row → row - 1 + 1 ≡ row + 1 - 1
     next k = omega arith
 
-pub numbers_done : (e k row : ℕ) (parts items : List ℕ) → IsHeld parts → k ≡ beads e parts → row - 1 ≡ k →
-    items ≡ map (λ a. part parts a + k - a) (range_with_len 1 (row - 1)) → Falls items
-numbers_done e k row parts items h count all is =
-    subst Falls
-    (sym (is ∙ ap₂ (λ m n. map (λ a. part parts a + m - a) (range_with_len 1 n)) count (all ∙ count)))
-    (beta-falls e parts h.partition)
+pub numbers_done : (k row : ℕ) (parts items : List ℕ) → row - 1 ≡ k →
+    items ≡ map (λ a. part parts a + k - a) (range_with_len 1 (row - 1)) → items ≡ numbers parts k
+numbers_done k row parts items all is =
+    is ∙ ap (λ n. map (λ a. part parts a + k - a) (range_with_len 1 n)) all ∙ rows-numbers parts k
 
 -- ---- the walk down the numbers
 

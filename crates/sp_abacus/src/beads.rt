@@ -3,14 +3,14 @@ ghost use Rattle.std.specs.Prelude.{◌≡◌, ℕ, ◌+◌, ◌<◌, ◌≤◌,
 ghost use Rattle.sp_defs.specs.Partition.{part as part_of, degree as degree_of};
 ghost use Rattle.sp_defs.specs.Abacus.{beads as beads_of, beta as beta_of, runner as runner_of, slid as slid_of};
 ghost use Rattle.sp_defs.specs.Abacus.{shown as shown_of};
-ghost use Rattle.sp_abacus_law.specs.Beads.{Falls};
+ghost use Rattle.sp_abacus_law.specs.Beads.{numbers as numbers_of, Falls};
 ghost use Rattle.sp_partition.specs.Held.{IsHeld};
 
 use arrayvec::ArrayVec;
 use sp_partition::Partition;
 
 // Above all numbers of beads, slid down or not.
-const NUMBERS_END: u8 = 96;
+pub(crate) const NUMBERS_END: u8 = 96;
 
 /// The beta numbers, from the greatest to the least.
 pub fn beta(e: u8, p: &Partition) -> ArrayVec<u8, 64>
@@ -20,7 +20,14 @@ pub fn beta(e: u8, p: &Partition) -> ArrayVec<u8, 64>
     ensures falls { Falls result.items }
     ensures held { IsHeld p.now }
 {
-    let count = bead_count(e, p);
+    numbers(p, bead_count(e, p))
+}
+
+// The numbers of so many beads, from the greatest to the least.
+pub(crate) fn numbers(p: &Partition, count: u8) -> ArrayVec<u8, 64>
+    requires { count ≤ 64 }
+    ensures { result.items ≡ numbers_of p.now count }
+{
     let mut numbers = ArrayVec::new();
     for row in 1..count + 1 {
         numbers.push(row_length(p, row) + count - row);
@@ -29,7 +36,7 @@ pub fn beta(e: u8, p: &Partition) -> ArrayVec<u8, 64>
 }
 
 // The least multiple of e that is at least the number of parts.
-fn bead_count(e: u8, p: &Partition) -> u8
+pub(crate) fn bead_count(e: u8, p: &Partition) -> u8
     requires e_least { 2 ≤ e }
     requires e_most { e ≤ 64 }
     ensures value { result ≡ beads_of e p.now }
@@ -92,7 +99,7 @@ pub(crate) fn slid(e: u8, p: &Partition) -> ArrayVec<u8, 64>
 }
 
 // How many beads each runner has. From e on there is none.
-fn heights(e: u8, numbers: &[u8]) -> [u8; 64]
+pub(crate) fn heights(e: u8, numbers: &[u8]) -> [u8; 64]
     requires e_least { 2 ≤ e }
     requires e_most { e ≤ 64 }
     requires few { length numbers.now ≤ 64 }

@@ -1,17 +1,15 @@
-use Rattle.std.proofs.Common.{arith}
-use Rattle.sp_abacus.proofs.Walks.{numbers_more, numbers_done}
+use Rattle.std.proofs.Common.{◌∙◌, sym, ap, subst}
+use Rattle.sp_abacus_law.specs.Beads.{numbers, Falls}
+use Rattle.sp_abacus_law.proofs.Numbers.{beta-numbers, beta-falls}
 use Rattle.sp_abacus.proofs.beads.beta.Goals as goal
 
-pub loop-row-preserved : goal.loop-row-preserved
-loop-row-preserved c =
-    record {
-      is = numbers_more c.args.p.now c.bead_count-count.result c.loop-row.row c.row_length.result
-          c.loop-row.numbers.items c.push.new.self.items (omega arith) c.row_length.ensures.value
-          c.loop-row.invariant.is c.push.ensures.items;
-      len = omega arith;
-    }
+pub returns-clause-numbers : goal.returns-clause-numbers
+returns-clause-numbers c =
+    c.numbers.ensures ∙ ap (numbers c.args.p.now) c.bead_count.ensures.value ∙ sym (beta-numbers c.args.e c.args.p.now)
 
 pub returns-clause-falls : goal.returns-clause-falls
 returns-clause-falls c =
-    numbers_done c.args.e c.bead_count-count.result c.loop-row.row c.args.p.now c.loop-row.numbers.items
-    c.bead_count-count.ensures.held c.bead_count-count.ensures.value (omega arith) c.loop-row.invariant.is
+    subst Falls
+    (sym (c.numbers.ensures ∙ ap (numbers c.args.p.now) c.bead_count.ensures.value
+    ∙ sym (beta-numbers c.args.e c.args.p.now)))
+    (beta-falls c.args.e c.args.p.now c.bead_count.ensures.held.partition)

@@ -1,7 +1,7 @@
 use Rattle.std.proofs.Common.{◌≡◌, ◌+◌, ◌-◌, map, length}
 use Rattle.std.specs.List.{range_with_len}
 use Rattle.sp_defs.specs.Partition.{part}
-use Rattle.sp_abacus.proofs.beads.beta.Given as goal
+use Rattle.sp_abacus.proofs.beads.numbers.Given as goal
 
 abbrev pub invariant-loop-row : goal.invariant-loop-row
 invariant-loop-row l = record {
