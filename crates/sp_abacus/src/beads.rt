@@ -48,7 +48,7 @@ pub(crate) fn bead_count(e: u8, p: &Partition) -> u8
 }
 
 #[tactic(auto, using(sp_partition::proofs::Holding::few_parts))]
-fn row_count(p: &Partition) -> u8
+pub(crate) fn row_count(p: &Partition) -> u8
     ensures value { result ≡ length p.now }
     ensures small { result ≤ 32 }
     ensures held { IsHeld p.now }

@@ -41,7 +41,7 @@ pub fn quotient(e: u8, p: &Partition) -> ArrayVec<Partition, 64>
     found
 }
 
-fn shown(numbers: &[u8]) -> Partition
+pub(crate) fn shown(numbers: &[u8]) -> Partition
     requires falls { Falls numbers.now }
     requires few { length numbers.now ≤ 64 }
     requires small { degree_of (shown_of numbers.now) ≤ 32 }

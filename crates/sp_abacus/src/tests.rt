@@ -1,4 +1,4 @@
-use crate::{beta, core, quotient, weight};
+use crate::{CombineFault, beta, combine, core, quotient, weight};
 use sp_partition::Partition;
 use std::test::Fail;
 
@@ -19,5 +19,18 @@ fn a_row_of_four(rt: HostRuntime) -> Result<(), Fail> {
     assert_eq!(rt; of_two.len(), 2);
     assert_eq!(rt; of_two[0].degree(), 0);
     assert_eq!(rt; of_two[1].parts(), [2].as_slice());
+    Ok(())
+}
+
+#[test]
+fn cores_with_quotients(rt: HostRuntime) -> Result<(), Fail> {
+    let empty = Partition::empty();
+    let one = Partition::from_parts(&[1]).unwrap_or_default();
+    let two = Partition::from_parts(&[2]).unwrap_or_default();
+    let four = Partition::from_parts(&[4]).unwrap_or_default();
+    assert_eq!(rt; combine(3, &one, &[one, empty, empty]), Ok(four));
+    assert_eq!(rt; combine(2, &empty, &[empty, two]), Ok(four));
+    assert_eq!(rt; combine(2, &two, &[empty, two]), Err(CombineFault::NotCore));
+    assert_eq!(rt; combine(2, &empty, &[two]), Err(CombineFault::WrongCount));
     Ok(())
 }

@@ -66,7 +66,7 @@ degree-runner-le e parts i he hi h =
 
 -- ---- the numbers of the beads slid down
 
-down-at : (P : ℕ → Type 0) (n b : ℕ) → AllByRecursion P (down n) → b < n → P b
+pub down-at : (P : ℕ → Type 0) (n b : ℕ) → AllByRecursion P (down n) → b < n → P b
 down-at P zero b h lt = absurd (omega arith)
 down-at P (suc n) b (h, hs) lt = settle (le_or_lt n b) (λ k. down-at P n b hs k)
   where

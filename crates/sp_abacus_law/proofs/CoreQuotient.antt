@@ -142,8 +142,8 @@ module _ (e : ℕ) (he : 1 ≤ e) where
     first_small [] = omega arith
     first_small (p ∷ parts) = omega (arith, sum_by-cons (λ x. x) p parts)
 
-    low : (i : ℕ) → i < e → AllByRecursion (λ p. p < sum_by degree q + total) (places_for e kappa q i)
-    low i hi =
+    pub places_low : (i : ℕ) → i < e → AllByRecursion (λ p. p < sum_by degree q + total) (places_for e kappa q i)
+    places_low i hi =
         all_weaken (λ c. c < degree (entry i) + length (runner e mine i)) (λ c. c < sum_by degree q + total)
         (places_for e kappa q i)
         (λ c lt. omega (arith, lt, entry_small i hi, runner-short e mine i, length-numbers kappa total))
@@ -153,9 +153,9 @@ module _ (e : ℕ) (he : 1 ≤ e) where
     set_runner : (i : ℕ) → i < e → runner e set i ≡ places_for e kappa q i
     set_runner i hi =
         runner-placed e (sum_by degree q + total) i (places_for e kappa q) hi
-        (numbers-falls (entry i) (length (runner e mine i)) (entry_partition i hi)) (low i hi)
+        (numbers-falls (entry i) (length (runner e mine i)) (entry_partition i hi)) (places_low i hi)
 
-    set_falls : Falls set
+    pub set_falls : Falls set
     set_falls = placed-falls e ((sum_by degree q + total) * e) (places_for e kappa q)
 
     set_height : (i : ℕ) → i < e → length (runner e set i) ≡ length (runner e mine i)
@@ -169,7 +169,7 @@ module _ (e : ℕ) (he : 1 ≤ e) where
         (λ i lo hi. set_height i (omega arith)))
         ∙ sym (length-runners e mine he)
 
-    set_total : length set ≡ j * e
+    pub set_total : length set ≡ j * e
     set_total = set_length ∙ length-numbers kappa total ∙ total_is
 
     whole : numbers (combined e kappa q) (j * e) ≡ set

@@ -15,7 +15,7 @@ use Rattle.sp_abacus_law.proofs.Falling.{down-below, falls-filter, down-falls}
 use Rattle.sp_abacus_law.proofs.Sums.{eqb-differ}
 use Rattle.sp_abacus_law.proofs.Runners.{runner-cons, runner-down}
 
-not_member : (n : ℕ) (xs : List ℕ) → AllByRecursion (λ c. c < n) xs → member n xs ≡ false
+pub not_member : (n : ℕ) (xs : List ℕ) → AllByRecursion (λ c. c < n) xs → member n xs ≡ false
 not_member n [] h = refl
 not_member n (x ∷ xs) (h, hs) = ap₂ (λ v w. v || w) (eqb-differ x n (inl h)) (not_member n xs hs)
 

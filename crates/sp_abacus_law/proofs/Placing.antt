@@ -1,13 +1,22 @@
 -- Beads placed for a core and a quotient: how many, and how great their numbers are.
+use Rattle.std.proofs.Common.{Bool, true, false, ◌<◌, refl}
 use Rattle.std.proofs.Common.{◌≡◌, ℕ, zero, suc, ◌+◌, ◌-◌, ◌*◌, ◌/◌, ◌%◌, ◌≤◌, List, [], ◌∷◌}
 use Rattle.std.proofs.Common.{length, sum_by, ◌∙◌, ap, arith, mul-le-mul_left}
 use Rattle.std.specs.List.{AllByRecursion}
 use Rattle.std.proofs.lemmas.List.Sums.{sum_by-cons}
-use native.Mathlib.Nat.{div-add-mod}
+use native.Mathlib.Nat.{div-add-mod, mod-lt}
+use Rattle.sp_lists.proofs.Elements.{le_or_lt}
+use Rattle.std.proofs.Common.{◌⊎◌, inl, inr}
 use Rattle.sp_defs.specs.Partition.{degree, IsPartition}
 use Rattle.sp_defs.specs.Abacus.{beads, core, weight}
 use Rattle.sp_shapes.proofs.Degrees.{length-degree}
-use Rattle.sp_abacus_law.specs.Combined.{beads_for, combined}
+use Rattle.sp_abacus_law.specs.Combined.{beads_for, combined, combined_beads, places_for, placed, member}
+use Rattle.sp_abacus_law.specs.Beads.{down}
+use Rattle.sp_lists.proofs.Elements.{filter_all}
+use Rattle.sp_lists.proofs.Places.{all_weaken}
+use Rattle.sp_abacus_law.proofs.Members.{not_member}
+use Rattle.sp_abacus_law.proofs.Bounds.{filter-same, falls-small, down-at}
+use Rattle.sp_abacus_law.proofs.CoreQuotient.{places_low, set_total, set_falls}
 use Rattle.sp_abacus_law.proofs.Weight.{degree-core}
 use Rattle.sp_abacus_law.proofs.CoreQuotient.{combined_partition, combined_core, combined_quotient}
 
@@ -56,3 +65,59 @@ degree-combined e kappa q he hk count hq own =
     degree-core e (combined e kappa q) he (combined_partition e he kappa q hk count hq)
     ∙ ap (λ c. degree c + e * weight e (combined e kappa q)) (combined_core e he kappa q hk count hq ∙ own)
     ∙ ap (λ qs. degree kappa + e * sum_by degree qs) (combined_quotient e he kappa q hk count hq)
+
+-- ---- all numbers are below 96
+
+member_past : (n p : ℕ) (xs : List ℕ) → AllByRecursion (λ c. c < n) xs → n ≤ p → member p xs ≡ false
+member_past n p xs h le = not_member p xs (all_weaken (λ c. c < n) (λ c. c < p) xs (λ c lt. omega arith) h)
+
+high_place : (e n b : ℕ) → 1 ≤ e → n * e ≤ b → n ≤ b / e
+high_place e n b he le = settle (le_or_lt n (b / e))
+  where
+    settle : (n ≤ b / e) ⊎ (b / e < n) → n ≤ b / e
+    settle (inl k) = k
+    settle (inr k) = absurd (low (b / e) (b % e) k (div-add-mod b e) (mod-lt b he))
+      where
+        low : (q r : ℕ) → q < n → e * q + r ≡ b → r < e → ⊥
+        low q r lt eq small = let more : e * (q + 1) ≤ e * n = mul-le-mul_left e (omega arith) in omega arith
+
+pub beads-small : (e : ℕ) (kappa : List ℕ) (q : List (List ℕ)) → 1 ≤ e → e ≤ 64 → IsPartition kappa → length q ≡ e →
+    AllByRecursion IsPartition q → core e kappa ≡ kappa → degree kappa + e * sum_by degree q ≤ 20 →
+    placed e (places_for e kappa q) 96 ≡ combined_beads e kappa q
+beads-small e kappa q he most hk count hq own small = filter-same test 96 (n * e) past above
+  where
+    n : ℕ
+    n = sum_by degree q + beads_for e kappa q
+
+    test : ℕ → Bool
+    test b = member (b / e) (places_for e kappa q (b % e))
+
+    past : (b : ℕ) → n * e ≤ b → b < 96 → test b ≡ false
+    past b lo hi =
+        member_past (sum_by degree q + beads_for e kappa q) (b / e) (places_for e kappa q (b % e))
+        (places_low e he kappa q hk count hq (b % e) (mod-lt b he))
+        (high_place e (sum_by degree q + beads_for e kappa q) b he lo)
+
+    few : degree (combined e kappa q) + length (combined_beads e kappa q) ≤ 96
+    few =
+        omega (
+          arith,
+          degree-combined e kappa q he hk count hq own,
+          beads_for-few e kappa q he most hk hq small,
+          set_total e he kappa q hk count hq,
+        )
+
+    each : AllByRecursion (λ b. test b ≡ true → b < 96) (down (n * e))
+    each =
+        filter_all (λ c. c < 96) (λ b. member (b / e) (places_for e kappa q (b % e)))
+        (down ((sum_by degree q + beads_for e kappa q) * e))
+        (all_weaken (λ c. c < degree (combined e kappa q) + length (combined_beads e kappa q)) (λ c. c < 96)
+        (combined_beads e kappa q) (λ c lt. omega (arith, few))
+        (falls-small (combined_beads e kappa q) (set_falls e he kappa q hk count hq)))
+
+    above : (b : ℕ) → 96 ≤ b → b < n * e → test b ≡ false
+    above b lo hi = tested (test b) refl (down-at (λ b. test b ≡ true → b < 96) (n * e) b each hi)
+      where
+        tested : (v : Bool) → test b ≡ v → (test b ≡ true → b < 96) → test b ≡ false
+        tested false t f = t
+        tested true t f = absurd (let lt = f t in omega arith)

@@ -22,8 +22,12 @@ abbrev pub places_for : ℕ → List ℕ → List (List ℕ) → ℕ → List �
 places_for e core quotient i =
     numbers (slice_index_or quotient i []) (length (runner e (numbers core (beads_for e core quotient)) i))
 
+-- The numbers of the beads at these places.
+abbrev pub combined_beads : ℕ → List ℕ → List (List ℕ) → List ℕ
+combined_beads e core quotient =
+    placed e (places_for e core quotient) ((sum_by degree quotient + beads_for e core quotient) * e)
+
 -- The partition with this core and quotient.
 -- (James and Kerber, The Representation Theory of the Symmetric Group, ch. 2)
 abbrev pub combined : ℕ → List ℕ → List (List ℕ) → List ℕ
-combined e core quotient =
-    shown (placed e (places_for e core quotient) ((sum_by degree quotient + beads_for e core quotient) * e))
+combined e core quotient = shown (combined_beads e core quotient)
