@@ -1,3 +1,4 @@
 pub mod Pairs
 pub mod Passes
 pub mod Chosen
+pub mod Descending

@@ -3,6 +3,10 @@
 //! `e` is from 2 to 64 throughout. No call takes memory.
 #![tactic(auto)]
 
+mod law;
+mod paths;
 mod signature;
 
+pub use law::move_law;
+pub use paths::path;
 pub use signature::{cogood, good, normal};
