@@ -3,10 +3,12 @@
 //! `e` is from 2 to 64 throughout. No call takes memory.
 #![tactic(auto)]
 
+mod images;
 mod law;
 mod paths;
 mod signature;
 
-pub use law::move_law;
+pub use images::{NoPath, mullineux};
+pub use law::{move_law, signature_law};
 pub use paths::path;
 pub use signature::{cogood, good, normal};
