@@ -1,15 +1,15 @@
 -- The way up along cogood nodes.
 use Rattle.std.proofs.Common.{◌≡◌, ℕ, zero, suc, ◌+◌, ◌-◌, ◌%◌, ◌<◌, ◌≤◌, true, List, [], ◌∷◌, ◌++◌, take, drop, map}
-use Rattle.std.proofs.Common.{reverse, length, get_or, slice_index, refl, sym, ◌∙◌, ap, ap₂, subst, arith, Option, Some}
-use Rattle.std.proofs.Common.{None, ◌⊎◌, inl, inr, Result, Ok, Err, rules}
-use Rattle.std.proofs.lemmas.List.{drop-drop, map-append, reverse-append, take-take, take-append-drop, take_all}
+use Rattle.std.proofs.Common.{reverse, length, slice_index, refl, sym, ◌∙◌, ap, subst, arith, Option, Some}
+use Rattle.std.proofs.Common.{None, ◌⊎◌, inl, inr, Result, Ok, Err}
+use Rattle.std.proofs.lemmas.List.{drop-drop, reverse-append, take-take, take-append-drop, take_all}
 use Rattle.std.proofs.lemmas.List.{length-drop, length-map, length-reverse}
 use Rattle.std.specs.List.{AllByRecursion}
-use Rattle.sp_defs.specs.Partition.{degree, part, is_regular}
+use Rattle.sp_defs.specs.Partition.{degree, part}
 use Rattle.sp_defs.specs.Node.{Node, is_addable}
 use Rattle.sp_defs.specs.Signature.{path, cogood, climb, add_node, grow}
 use Rattle.sp_lists.proofs.Elements.{le_or_lt, all_left, all_right}
-use Rattle.sp_shapes.proofs.Corners.{part_is, addable_row}
+use Rattle.sp_shapes.proofs.Corners.{addable_row}
 use Rattle.sp_shapes.proofs.Regular.{index_short}
 use Rattle.sp_shapes.proofs.Listing.{IsPartition-nil}
 use Rattle.sp_shapes.proofs.Grow.{degree-grow}
@@ -29,8 +29,8 @@ climb-append e (i ∷ xs) ys parts reached h =
     settle : (o : Option Node) →
         ((x : Node) → climb e xs (add_node parts x) ≡ Some reached →
         climb e (xs ++ ys) (add_node parts x) ≡ climb e ys reached) →
-        ◌≡◌ {A = Option (List ℕ)} (elim o [ | None ↦ None | Some x ↦ climb e xs (add_node parts x) ]) (Some reached) →
-        ◌≡◌ {A = Option (List ℕ)} (elim o [ | None ↦ None | Some x ↦ climb e (xs ++ ys) (add_node parts x) ])
+        ◌≡◌ {A = Option (List ℕ)} (elim o [ None ↦ None | Some x ↦ climb e xs (add_node parts x) ]) (Some reached) →
+        ◌≡◌ {A = Option (List ℕ)} (elim o [ None ↦ None | Some x ↦ climb e (xs ++ ys) (add_node parts x) ])
         (climb e ys reached)
     settle None more h = let no : ◌≡◌ {A = Option (List ℕ)} None (Some reached) = h in cc
     settle (Some x) more h = more x h
@@ -42,8 +42,8 @@ climb-lost e (i ∷ xs) ys parts h = settle (cogood e i parts) (λ x. climb-lost
   where
     settle : (o : Option Node) →
         ((x : Node) → climb e xs (add_node parts x) ≡ None → climb e (xs ++ ys) (add_node parts x) ≡ None) →
-        ◌≡◌ {A = Option (List ℕ)} (elim o [ | None ↦ None | Some x ↦ climb e xs (add_node parts x) ]) None →
-        ◌≡◌ {A = Option (List ℕ)} (elim o [ | None ↦ None | Some x ↦ climb e (xs ++ ys) (add_node parts x) ]) None
+        ◌≡◌ {A = Option (List ℕ)} (elim o [ None ↦ None | Some x ↦ climb e xs (add_node parts x) ]) None →
+        ◌≡◌ {A = Option (List ℕ)} (elim o [ None ↦ None | Some x ↦ climb e (xs ++ ys) (add_node parts x) ]) None
     settle None more h = refl
     settle (Some x) more h = more x h
 
@@ -175,8 +175,10 @@ module _ (e : ℕ) (ups : List ℕ) where
     pub ended_image : (image : List ℕ) →
         ((◌≡◌ {A = Result (List ℕ) NoPath} (Ok at) (Ok image)) → climb e ups [] ≡ Some image) ×
         (climb e ups [] ≡ Some image → ◌≡◌ {A = Result (List ℕ) NoPath} (Ok at) (Ok image))
-    ended_image image = ((λ is. let same : at ≡ image = cc in h ∙ ap Some same),
-      λ is. let same : at ≡ image = cc in ap Ok same)
+    ended_image image = (
+      (λ is. let same : at ≡ image = cc in h ∙ ap Some same),
+      λ is. let same : at ≡ image = cc in ap Ok same,
+    )
 
 -- ---- the loop
 

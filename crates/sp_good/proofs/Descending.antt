@@ -5,7 +5,7 @@ use Rattle.std.proofs.lemmas.List.{append-nil}
 use Rattle.std.proofs.lemmas.Bool.Decides.{nat_tests}
 use Rattle.std.specs.List.{AllByRecursion}
 use Rattle.std.specs.Option.{IfSome, SomeIff}
-use Rattle.sp_defs.specs.Partition.{degree, part, IsPartition, is_regular}
+use Rattle.sp_defs.specs.Partition.{degree, part, is_regular}
 use Rattle.sp_defs.specs.Node.{Node, is_removable}
 use Rattle.sp_defs.specs.Signature.{good, least_good, path_of, path, remove_node, shrink}
 use Rattle.sp_defs.specs.Statements.{IsLabel}
@@ -29,14 +29,14 @@ pub least-here : (e i k : ℕ) (parts : List ℕ) (x : Node) → 0 < k → good 
     least_good e i k parts ≡ Some (i, x)
 unfolding least_good
 least-here e i zero parts x some is = absurd (omega arith)
-least-here e i (suc k) parts x some is = ap (λ o. elim o [ | Some x ↦ Some (i, x) | None ↦ least_good e (i + 1) k parts ]) is
+least-here e i (suc k) parts x some is = ap (λ o. elim o [ Some x ↦ Some (i, x) | None ↦ least_good e (i + 1) k parts ]) is
 
 pub least-later : (e i k : ℕ) (parts : List ℕ) → 0 < k → good e i parts ≡ None →
     least_good e i k parts ≡ least_good e (i + 1) (k - 1) parts
 unfolding least_good
 least-later e i zero parts some is = absurd (omega arith)
 least-later e i (suc k) parts some is =
-    ap (λ o. elim o [ | Some x ↦ Some (i, x) | None ↦ least_good e (i + 1) k parts ]) is
+    ap (λ o. elim o [ Some x ↦ Some (i, x) | None ↦ least_good e (i + 1) k parts ]) is
     ∙ ap (λ n. least_good e (i + 1) n parts) (back k)
   where
     back : (k : ℕ) → k ≡ suc k - 1
@@ -56,7 +56,7 @@ none_among e i (suc k) parts none j x lo hi is =
     settle (good e i parts) refl none (λ h past. none_among e (i + 1) k parts h j x past (omega arith) is)
   where
     settle : (o : Option Node) → good e i parts ≡ o →
-        ◌≡◌ {A = Option (ℕ × Node)} (elim o [ | Some x ↦ Some (i, x) | None ↦ least_good e (i + 1) k parts ]) None →
+        ◌≡◌ {A = Option (ℕ × Node)} (elim o [ Some x ↦ Some (i, x) | None ↦ least_good e (i + 1) k parts ]) None →
         (least_good e (i + 1) k parts ≡ None → i + 1 ≤ j → ⊥) → ⊥
     settle (Some y) at h later = let same : ◌≡◌ {A = Option (ℕ × Node)} (Some (i, y)) None = h in cc
     settle None at h later = later h (omega (arith, not_here))

@@ -1,5 +1,5 @@
 -- Taking out pairs, one after the other.
-use Rattle.std.proofs.Common.{◌≡◌, ◌≢◌, List, [], ◌∷◌, ◌++◌, refl, sym, ◌∙◌, ap, subst}
+use Rattle.std.proofs.Common.{◌≡◌, List, [], ◌∷◌, ◌++◌, refl, sym, ◌∙◌, ap, subst}
 use Rattle.sp_defs.specs.Node.{Node}
 use Rattle.sp_defs.specs.Signature.{Addable, Removable, Mark, TakesOut, done, pair, joined, reduced, removables}
 use Rattle.sp_good.specs.Reduction.{NoPairLeft, IsReached, IsFinal, IsOnlyEnd}

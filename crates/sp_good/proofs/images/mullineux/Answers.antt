@@ -1,5 +1,4 @@
-use Rattle.std.proofs.Common.{◌≡◌, refl, ◌-◌, ◌%◌, [], subst, sym, ◌∙◌, ap, arith, rules}
-use Rattle.sp_nodes.specs.Nodes.{pair}
+use Rattle.std.proofs.Common.{◌≡◌, refl, subst, sym}
 use Rattle.sp_good.specs.Climb.{negated_path}
 use Rattle.sp_good.proofs.Descending.{some_value, some_fact}
 use Rattle.sp_good.proofs.Climbing.{Climbed, climbed_start, climbed_more, climbed_stops, climbed_all}
