@@ -16,7 +16,8 @@ pub last-mapped : (xs : List Place) → option_map pair (slice_get xs (length xs
 unfolding last
 last-mapped [] = refl
 last-mapped (x ∷ []) = refl
-last-mapped (x ∷ y ∷ xs) = ap (λ k. option_map pair (slice_get (x ∷ y ∷ xs) k)) (less (length xs)) ∙ last-mapped (y ∷ xs)
+last-mapped (x ∷ y ∷ xs) =
+    ap (λ k. option_map pair (slice_get (x ∷ y ∷ xs) k)) (less (length xs)) ∙ last-mapped (y ∷ xs)
   where
     less : (n : ℕ) → suc (suc n) - 1 ≡ suc (suc n - 1)
     less n = omega arith
@@ -33,7 +34,8 @@ module _ (e : ℕ) (he : 2 ≤ e) (i : ℕ) (parts : List ℕ) (pp : IsPartition
       IfSome found (λ x. is_regular e (remove_node parts (pair x)) ≡ true)
   good_regular None is reg = tt
   good_regular (Some x) is reg =
-      ((move_law e parts (record { e_least = he; partition = pp; regular = reg })).good_keeps i (pair x) (sym is)).regular
+      ((move_law e parts (record { e_least = he; partition = pp; regular = reg })).good_keeps i (pair x)
+      (sym is)).regular
 
   pub cogood_addable : (found : Option Place) → option_map pair found ≡ cogood e i parts →
       IfSome found (λ x. is_addable parts (x.row, part parts x.row + 1) ≡ true)

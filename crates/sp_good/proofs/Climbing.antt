@@ -269,4 +269,5 @@ pub climbed_all : (e : ℕ) (ups rest at : List ℕ) (step : ℕ) → length res
     climb e ups [] ≡ Some at
 climbed_all e ups (r ∷ rest) at step none h = absurd (omega arith)
 climbed_all e ups [] at step none h =
-    ap (λ xs. climb e xs []) (sym (take_all step ups (omega (arith, ap length h.left, length-drop step ups)))) ∙ h.reached
+    ap (λ xs. climb e xs []) (sym (take_all step ups (omega (arith, ap length h.left, length-drop step ups))))
+    ∙ h.reached

@@ -29,7 +29,8 @@ pub least-here : (e i k : ℕ) (parts : List ℕ) (x : Node) → 0 < k → good 
     least_good e i k parts ≡ Some (i, x)
 unfolding least_good
 least-here e i zero parts x some is = absurd (omega arith)
-least-here e i (suc k) parts x some is = ap (λ o. elim o [ Some x ↦ Some (i, x) | None ↦ least_good e (i + 1) k parts ]) is
+least-here e i (suc k) parts x some is =
+    ap (λ o. elim o [ Some x ↦ Some (i, x) | None ↦ least_good e (i + 1) k parts ]) is
 
 pub least-later : (e i k : ℕ) (parts : List ℕ) → 0 < k → good e i parts ≡ None →
     least_good e i k parts ≡ least_good e (i + 1) (k - 1) parts

@@ -16,7 +16,7 @@ IsReached = (marks : List Mark) → TakesOut marks (reduced marks)
 abbrev pub IsFinal : Type 0
 IsFinal = (marks : List Mark) → NoPairLeft (reduced marks)
 
--- Whatever pairs are taken out first, it ends there
+-- Whatever pairs are taken out first, it ends there.
 -- (Kleshchev, Branching rules for modular representations of symmetric groups II, 1995; Mathas, ch. 6)
 abbrev pub IsOnlyEnd : Type 0
 IsOnlyEnd = (marks rest : List Mark) → TakesOut marks rest → NoPairLeft rest → rest ≡ reduced marks

@@ -30,6 +30,7 @@ pub fn mullineux(e: u8, mu: &Partition) -> Result<Partition, NoPath>
     ensures image { (image : List ℕ) → (result ≡ Ok image) ↔ (mullineux_of e mu.now ≡ Some image) }
     ensures stop { (stop : NoPath) → (result ≡ Err stop) ↔ Stops e (negated_path e mu.now) stop }
 {
+    // the proof needs what the type keeps: a partition of at most the capacity
     prove!(mu.degree() <= CAPACITY);
     let residues = path(e, mu);
     let mut at = Partition::empty();

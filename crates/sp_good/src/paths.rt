@@ -22,6 +22,7 @@ pub fn path(e: u8, mu: &Partition) -> ArrayVec<u8, 32>
     ensures below { AllByRecursion (λ i. i < e) result.items }
     ensures whole { length result.items ≡ degree_of mu.now }
 {
+    // the proof needs what the type keeps: a partition of at most the capacity
     prove!(mu.degree() <= CAPACITY);
     let mut residues = ArrayVec::new();
     let mut at = *mu;

@@ -33,6 +33,7 @@ pub fn good(e: u8, i: u8, p: &Partition) -> Option<Node>
     ensures regular { is_regular e p.now ≡ true →
         IfSome result (λ x. is_regular e (remove_node p.now (pair x)) ≡ true) }
 {
+    // the proof needs what the type keeps: a partition of at most the capacity
     prove!(p.degree() <= CAPACITY);
     normal(e, i, p).last().copied()
 }
@@ -49,6 +50,7 @@ pub fn cogood(e: u8, i: u8, p: &Partition) -> Option<Node>
     ensures regular { is_regular e p.now ≡ true →
         IfSome result (λ x. is_regular e (add_node p.now (pair x)) ≡ true) }
 {
+    // the proof needs what the type keeps: a partition of at most the capacity
     prove!(p.degree() <= CAPACITY);
     highest_addable_left(&marks(e, i, p))
 }

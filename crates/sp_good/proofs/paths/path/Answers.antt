@@ -1,7 +1,8 @@
 use Rattle.std.proofs.Common.{◌≡◌, subst, sym, ap, arith, ◌-◌}
 use Rattle.sp_defs.specs.Partition.{degree}
 use Rattle.sp_defs.specs.Signature.{shrink}
-use Rattle.sp_good.proofs.Descending.{Descended, some_value, some_fact, descended_start, one_less, descended_more, descended_all, descended_whole}
+use Rattle.sp_good.proofs.Descending.{Descended, some_value, some_fact, descended_start, one_less}
+use Rattle.sp_good.proofs.Descending.{descended_more, descended_all, descended_whole}
 use Rattle.sp_good.proofs.paths.path.Goals as goal
 use Rattle.sp_good.proofs.paths.path.Goals.{After-unwrap-at}
 

@@ -1,6 +1,6 @@
 use Rattle.std.proofs.Common.{◌≡◌, None, rules, arith, subst, sym}
-use Rattle.sp_good.proofs.Passes.{Ascends, ascends_start, unpaired_below, ascends_removable, ascends_paired, ascends_left}
-use Rattle.sp_good.proofs.Passes.{ascends_all}
+use Rattle.sp_good.proofs.Passes.{Ascends, ascends_start, unpaired_below, ascends_removable, ascends_paired}
+use Rattle.sp_good.proofs.Passes.{ascends_left, ascends_all}
 use Rattle.sp_good.proofs.signature.highest_addable_left.Goals as goal
 
 pub loop-mark-init : goal.loop-mark-init

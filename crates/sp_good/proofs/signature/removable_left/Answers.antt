@@ -1,6 +1,7 @@
 use Rattle.std.proofs.Common.{◌+◌, drop, get_or, arith, subst, ap}
 use Rattle.std.proofs.lemmas.List.{drop_more, drop_all}
-use Rattle.sp_good.proofs.Passes.{Descends, descends_same, descends_addable, descends_paired, descends_left, descends_all, no_mark}
+use Rattle.sp_good.proofs.Passes.{Descends, descends_same, descends_addable, descends_paired}
+use Rattle.sp_good.proofs.Passes.{descends_left, descends_all, no_mark}
 use Rattle.sp_good.proofs.signature.removable_left.Goals as goal
 use Rattle.sp_good.proofs.signature.removable_left.Goals.{in-Addable, in-Removable, in-Removable-2}
 
