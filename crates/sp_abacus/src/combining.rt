@@ -1,9 +1,9 @@
 // The partition with a given core and a given quotient.
-ghost use Rattle.std.specs.Prelude.{◌≡◌, ◌↔◌, ◌+◌, ◌*◌, ◌/◌, ◌%◌, ◌<◌, ◌≤◌, IfOk, length, slice_index};
+ghost use Rattle.std.specs.Prelude.{◌≡◌, ◌↔◌, ◌+◌, ◌*◌, ◌/◌, ◌%◌, ◌<◌, ◌≤◌, IfOk, ℕ, List, length, slice_index};
 ghost use Rattle.std.specs.Prelude.{[], slice_index_or, sum_by};
 ghost use Rattle.std.specs.List.{AllByRecursion};
-ghost use Rattle.sp_defs.specs.Partition.{degree as degree_of};
-ghost use Rattle.sp_defs.specs.Abacus.{core as core_of, shown as shown_of};
+ghost use Rattle.sp_defs.specs.Partition.{degree as degree_of, IsPartition};
+ghost use Rattle.sp_defs.specs.Abacus.{core as core_of, quotient as quotient_of, shown as shown_of};
 ghost use Rattle.sp_partition.specs.Held.{IsHeld};
 ghost use Rattle.sp_abacus_law.specs.Beads.{numbers as numbers_of, Falls};
 ghost use Rattle.sp_abacus_law.specs.Combined.{combined, combined_beads, member};
@@ -29,6 +29,11 @@ pub fn combine(e: u8, kappa: &Partition, quotient: &[Partition]) -> Result<Parti
     requires e_least { 2 ≤ e }
     requires e_most { e ≤ 64 }
     ensures ok { IfOk result (λ p. p ≡ combined e kappa.now quotient.now) }
+    // it has just this core and this quotient
+    ensures has { IfOk result (λ p. (core_of e p ≡ kappa.now) × (quotient_of e p ≡ quotient.now)) }
+    // and a partition that has them, of a degree within the limit, is the answer
+    ensures given_back { (lambda : List ℕ) → IsPartition lambda → degree_of lambda ≤ DEGREE_LIMIT →
+        core_of e lambda ≡ kappa.now → quotient_of e lambda ≡ quotient.now → result ≡ Ok lambda }
     ensures not_core { (result ≡ Err CombineFault.NotCore) ↔ ¬ (core_of e kappa.now ≡ kappa.now) }
     ensures wrong_count { (result ≡ Err CombineFault.WrongCount)
         ↔ ((core_of e kappa.now ≡ kappa.now) × ¬ (length quotient.now ≡ e)) }

@@ -1,5 +1,5 @@
 // What the beads show: the core, the weight and the quotient.
-ghost use Rattle.std.specs.Prelude.{◌≡◌, ◌≤◌, length};
+ghost use Rattle.std.specs.Prelude.{◌≡◌, ◌+◌, ◌*◌, ◌≤◌, length};
 ghost use Rattle.sp_defs.specs.Partition.{degree as degree_of};
 ghost use Rattle.sp_defs.specs.Abacus.{shown as shown_of, core as core_of, weight as weight_of};
 ghost use Rattle.sp_defs.specs.Abacus.{quotient as quotient_of};
@@ -22,7 +22,8 @@ pub fn core(e: u8, p: &Partition) -> Partition
 pub fn weight(e: u8, p: &Partition) -> u8
     requires e_least { 2 ≤ e }
     requires e_most { e ≤ 64 }
-    ensures { result ≡ weight_of e p.now }
+    ensures value { result ≡ weight_of e p.now }
+    ensures degree { degree_of p.now ≡ degree_of (core_of e p.now) + e * result }
 {
     (p.degree() - core(e, p).degree()) / e
 }

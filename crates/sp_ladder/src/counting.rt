@@ -1,7 +1,9 @@
 // The ladders of a partition.
-ghost use Rattle.std.specs.Prelude.{◌≡◌, ◌+◌, ◌-◌, ◌*◌, ◌<◌, ◌≤◌, ℕ, length, map, count_by, nat_eq, max, slice_index, replicate};
+ghost use Rattle.std.specs.Prelude.{◌≡◌, ◌+◌, ◌-◌, ◌*◌, ◌<◌, ◌≤◌, ℕ, length, map, count_by, nat_eq, max, slice_index};
+ghost use Rattle.std.specs.Prelude.{replicate};
 ghost use Rattle.sp_defs.specs.Partition.{from_one_to};
-ghost use Rattle.sp_defs.specs.Ladder.{ladder_of, ladders as ladders_of, ladders_end as ladders_end_of, ladder_residue as ladder_residue_of, on_ladder};
+ghost use Rattle.sp_defs.specs.Ladder.{ladder_of, ladders as ladders_of, ladders_end as ladders_end_of, on_ladder};
+ghost use Rattle.sp_defs.specs.Ladder.{ladder_residue as ladder_residue_of};
 ghost use Rattle.sp_partition.specs.Held.{IsHeld};
 ghost use Rattle.sp_ladder.specs.Steps.{step_on};
 
@@ -109,7 +111,9 @@ fn count_row(counts: &mut [u8], e: u8, row: u16, part: u8)
     requires small { row + 63 * (part - 1) < LADDERS }
     requires room { (l : ℕ) → l < LADDERS → slice_index counts.old l + part < 256 }
     ensures { (l : ℕ) → l < LADDERS →
-        slice_index counts.new l ≡ slice_index counts.old l + count_by (λ x. nat_eq (ladder_of e x) l) (map (λ c. (row, c)) (from_one_to part)) }
+        slice_index counts.new l ≡
+        slice_index counts.old l
+        + count_by (λ x. nat_eq (ladder_of e x) l) (map (λ c. (row, c)) (from_one_to part)) }
 {
     let mut ladder = usize::from(row);
     for column in 0..part {

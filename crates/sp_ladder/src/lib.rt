@@ -3,6 +3,8 @@
 
 mod counting;
 mod step;
+#[cfg(test)]
+mod tests;
 mod vector;
 
 pub use counting::ladders;

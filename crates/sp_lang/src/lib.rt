@@ -4,6 +4,8 @@
 mod command;
 mod number;
 mod read;
+#[cfg(test)]
+mod tests;
 mod word;
 
 pub use command::Command;

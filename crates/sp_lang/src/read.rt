@@ -1,6 +1,7 @@
 // A line as a command.
 ghost use Rattle.std.specs.Prelude.{◌≡◌, IfSome};
-ghost use Rattle.sp_lang.specs.Built.{IsCommand, command_of, is_e, induce_from, induce_of, label_from, label_of, with_label};
+ghost use Rattle.sp_lang.specs.Built.{IsCommand, command_of, is_e, induce_from, induce_of, label_from, label_of};
+ghost use Rattle.sp_lang.specs.Built.{with_label};
 ghost use Rattle.sp_lang.specs.declared.command.Command.TheVariants.{Ladder, Ladders};
 ghost use Rattle.sp_lang.specs.Words.{partition_of, words};
 

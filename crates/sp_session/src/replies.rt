@@ -67,7 +67,8 @@ fn put_induced(
     requires e_most { e ≤ 64 }
     requires below { i < e }
     requires room { degree_of p.now + m ≤ DEGREE_LIMIT }
-    ensures { OnOk result (out.new.items ≡ out.old.items ++ vector_text (entries (degree_of p.now + m) (divided_power e i m (unit p.now)))) }
+    ensures { OnOk result (out.new.items ≡
+        out.old.items ++ vector_text (entries (degree_of p.now + m) (divided_power e i m (unit p.now)))) }
 {
     let one = unit_vector(alloc, p)?;
     match induce(alloc, e, i, m, &one, limit) {

@@ -18,7 +18,8 @@ pub(crate) fn put_ladders(
 ) -> Result<(), AllocError>
     requires e_least { 2 ≤ e }
     requires e_most { e ≤ 64 }
-    ensures { OnOk result (out.new.items ≡ out.old.items ++ dash_or_words (map (ladder_text e mu.now) (ladders_of e mu.now))) }
+    ensures { OnOk result
+        (out.new.items ≡ out.old.items ++ dash_or_words (map (ladder_text e mu.now) (ladders_of e mu.now))) }
 {
     let steps = ladders(e, mu);
     match steps.as_slice() {

@@ -66,6 +66,46 @@ fn a_run_says_how_it_ended(rt: HostRuntime) -> Result<(), Fail> {
 }
 
 #[test]
+fn commands_are_answered(rt: HostRuntime) -> Result<(), Fail> {
+    let cases = [
+        ("induce 2 0 1 3,1\n", "v^-1[3,2] + [3,1^2]\n"),
+        ("induce 2 0 1 2^2", "[3,2] + [2^2,1]\n"),
+        ("induce 2 0 2 2,1\n", "[3,2] + v[3,1^2] + v^2[2^2,1]\n"),
+        ("induce 2 1 1 2^2\n\n", "0\nerror 1 unknown command\n"),
+        (
+            "ladder 2 5\n",
+            "[5] + [3,2] + 2v[3,1^2] + v^2[2^2,1] + v^2[1^5]\n",
+        ),
+        ("ladders 2 3,2\nladders 2 -\n", "1:0:1 2:1:2 3:0:2\n-\n"),
+    ];
+    for (input, output) in cases {
+        let case = Case {
+            word: None,
+            input,
+            failing_read: 0,
+            failing_write: 0,
+            status: Status::Done,
+            output,
+        };
+        assert!(rt; holds(rt.alloc(), &case)?, "at {input}");
+    }
+    Ok(())
+}
+
+#[test]
+fn a_full_sink_has_the_first_bytes(rt: HostRuntime) -> Result<(), Fail> {
+    let alloc = rt.alloc();
+    let mut input = Vec::new(alloc);
+    input.extend_from_slice(b"induce 2 0 1 3,1\ninduce 2 0 1 2^2\n")?;
+    let mut source = MemSource::new(input, 14, Vec::new(alloc));
+    let mut sink = MemSink::new(alloc, 24, 1, Vec::new(alloc))?;
+    let status = run_alone(alloc, &[], &mut source, &mut sink);
+    assert!(rt; status == Status::WriteFault);
+    assert_eq!(rt; sink.bytes(), b"v^-1[3,2] + [3,1^2]\n[3,2".as_slice());
+    Ok(())
+}
+
+#[test]
 fn an_input_past_the_limit_is_refused(rt: HostRuntime) -> Result<(), Fail> {
     let alloc = rt.alloc();
     let mut bytes = Vec::new(alloc);

@@ -13,7 +13,7 @@ overflow_sub-result c =
       degree-core-le c.args.e c.args.p.now (omega arith) c.degree.ensures.held.partition,
     )
 
-pub returns : goal.returns
-returns c =
+pub returns-clause-value : goal.returns-clause-value
+returns-clause-value c =
     ap₂ (λ m n. (m - n) / c.args.e) c.degree.ensures.sum (c.degree-2.ensures.sum ∙ ap degree c.core.ensures)
     ∙ weight_by_core c.args.e c.args.p.now c.requires.e_least c.degree.ensures.held

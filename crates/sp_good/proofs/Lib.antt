@@ -1,0 +1,6 @@
+pub mod Pairs
+pub mod Passes
+pub mod Chosen
+pub mod Descending
+pub mod Climbing
+pub mod Reducing

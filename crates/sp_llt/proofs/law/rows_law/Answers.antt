@@ -1,0 +1,13 @@
+use Rattle.sp_row_law.proofs.RowsLaw.{rows_law}
+use Rattle.sp_row_law.proofs.Contents.{row_content_law}
+use Rattle.sp_llt.proofs.Existence.{rows_are_regular}
+use Rattle.sp_llt.proofs.law.rows_law.Goals as goal
+
+pub returns-clause-law : goal.returns-clause-law
+returns-clause-law c = rows_law
+
+pub returns-clause-exists : goal.returns-clause-exists
+returns-clause-exists c = rows_are_regular
+
+pub returns-clause-content : goal.returns-clause-content
+returns-clause-content c = row_content_law
