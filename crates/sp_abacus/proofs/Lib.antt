@@ -1,3 +1,4 @@
 pub mod Walks
 pub mod Showing
+pub mod Together
 pub mod Taking

@@ -32,5 +32,15 @@ fn cores_with_quotients(rt: HostRuntime) -> Result<(), Fail> {
     assert_eq!(rt; combine(2, &empty, &[empty, two]), Ok(four));
     assert_eq!(rt; combine(2, &two, &[empty, two]), Err(CombineFault::NotCore));
     assert_eq!(rt; combine(2, &empty, &[two]), Err(CombineFault::WrongCount));
+    let three = Partition::from_parts(&[3]).unwrap_or_default();
+    let seven = Partition::from_parts(&[7]).unwrap_or_default();
+    assert_eq!(rt;
+        combine(3, &three, &[empty, empty, empty]),
+        Err(CombineFault::NotCore)
+    );
+    assert_eq!(rt;
+        combine(3, &one, &[seven, empty, empty]),
+        Err(CombineFault::PastDegree)
+    );
     Ok(())
 }
