@@ -12,3 +12,6 @@ pub mod ItemReading
 pub mod ListReading
 pub mod Progress
 pub mod Canonical
+pub mod Rising
+pub mod Ranks
+pub mod Listings

@@ -2,12 +2,15 @@
 #![tactic(auto)]
 
 mod items;
+mod listing;
 mod order;
 mod partition;
+mod rank;
 mod reader;
 mod text;
 
 pub use items::Items;
+pub use listing::{all_of, regular_of};
 pub use partition::{NotPartition, Partition};
 
 /// The greatest degree that the program's commands take.

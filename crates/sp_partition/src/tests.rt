@@ -1,4 +1,4 @@
-use crate::{Items, NotPartition, Partition};
+use crate::{Items, NotPartition, Partition, all_of, regular_of};
 use std::test::Fail;
 
 fn read(text: &[u8]) -> Result<Partition, Fail> {
@@ -110,5 +110,36 @@ fn keeps_items(rt: HostRuntime) -> Result<(), Fail> {
     let items = Items::of([1, 2].to_vec(rt.alloc())?);
     assert_eq!(rt; items.as_slice(), [1, 2].as_slice());
     assert_eq!(rt; items.into_vec().len(), 2);
+    Ok(())
+}
+
+fn same_list(list: &[Partition], texts: &[&str]) -> Result<bool, Fail> {
+    let mut place = 0;
+    for text in texts {
+        if list.get(place) != Some(&read(text.as_bytes())?) {
+            return Ok(false);
+        }
+        place += 1;
+    }
+    Ok(place == list.len())
+}
+
+#[test]
+fn lists_partitions(rt: HostRuntime) -> Result<(), Fail> {
+    let four = all_of(rt.alloc(), 4)?;
+    assert!(rt; same_list(&four, &["1^4", "2,1^2", "2^2", "3,1", "4"])?);
+    let none = all_of(rt.alloc(), 0)?;
+    assert!(rt; same_list(&none, &["-"])?);
+    assert_eq!(rt; all_of(rt.alloc(), 20)?.len(), 627);
+    let regular = regular_of(rt.alloc(), 2, 5)?;
+    assert!(rt; same_list(&regular, &["3,2", "4,1", "5"])?);
+    Ok(())
+}
+
+#[test]
+fn ranks_partitions(rt: HostRuntime) -> Result<(), Fail> {
+    let four = all_of(rt.alloc(), 4)?;
+    assert_eq!(rt; Partition::rank(&four, &read(b"3,1")?), Some(3));
+    assert_eq!(rt; Partition::rank(&four, &read(b"3,2")?), None);
     Ok(())
 }
