@@ -6,3 +6,5 @@ pub mod Product
 pub mod Texts
 pub mod Mirroring
 pub mod Lower
+pub mod Symmetry
+pub mod Slopes

@@ -19,9 +19,11 @@ mod fault;
 mod mirror;
 mod sums;
 mod text;
+mod values;
 
 pub use fault::LaurentFault;
 pub use text::print_term;
+pub use values::TooLarge;
 
 /// Powers are at most this far from 0.
 pub const POWER_LIMIT: i32 = 1_000_000_000;

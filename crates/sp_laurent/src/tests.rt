@@ -74,3 +74,31 @@ fn prints(rt: HostRuntime) -> Result<(), Fail> {
     }
     Ok(())
 }
+
+#[test]
+fn mirrors_and_slopes(rt: HostRuntime) -> Result<(), Fail> {
+    let alloc = rt.alloc();
+    let one = Laurent::monomial(alloc, 1, 0)?;
+    let v = Laurent::monomial(alloc, 1, 1)?;
+    let mut p = Laurent::monomial(alloc, 1, -1)?;
+    assert_eq!(rt;
+        p.add_scaled(alloc, &Laurent::monomial(alloc, 2, 0)?, &one, 9),
+        Ok(())
+    );
+    let mut q = p.copy(alloc)?;
+    assert_eq!(rt; p.add_scaled(alloc, &v, &one, 9), Ok(()));
+    assert!(rt; p.is_bar_invariant());
+    assert_eq!(rt;
+        q.add_scaled(alloc, &Laurent::monomial(alloc, 1, 2)?, &one, 9),
+        Ok(())
+    );
+    assert!(rt; !q.is_bar_invariant());
+    assert!(rt; Laurent::zero(alloc).is_bar_invariant());
+    assert!(rt; !v.is_bar_invariant());
+
+    assert_eq!(rt; q.slope_at_one(3), Ok(1));
+    assert_eq!(rt; q.slope_at_one(2), Err(TooLarge));
+    assert_eq!(rt; Laurent::zero(alloc).slope_at_one(1), Ok(0));
+    assert_eq!(rt; Laurent::monomial(alloc, -3, 2)?.slope_at_one(6), Ok(-6));
+    Ok(())
+}
