@@ -2,7 +2,7 @@ ghost use Rattle.std.specs.Prelude.{◌≡◌, ◌≤◌};
 
 use crate::{cogood, good, mullineux, normal, path};
 use sp_nodes::Node;
-use sp_partition::Partition;
+use sp_partition::{Partition, regular_of};
 use std::process::Abort;
 use std::test::Fail;
 
@@ -41,25 +41,21 @@ fn path_and_image_of_one_row(rt: HostRuntime) -> Result<(), Fail> {
 #[test]
 fn image_of_the_image(rt: HostRuntime) -> Result<(), Fail> {
     for e in 2..6 {
-        image_twice(&rt, e, &[])?;
-        image_twice(&rt, e, &[4, 1])?;
-        image_twice(&rt, e, &[3, 2, 1])?;
-        image_twice(&rt, e, &[5, 3, 3])?;
-        image_twice(&rt, e, &[4, 4, 2, 1, 1])?;
-        image_twice(&rt, e, &[6, 2, 2, 2, 1])?;
+        for degree in 0..13 {
+            for mu in regular_of(rt.alloc(), e, degree)?.as_slice() {
+                image_twice(&rt, e, mu)?;
+            }
+        }
     }
     Ok(())
 }
 
-fn image_twice(rt: &impl Abort, e: u8, parts: &[u8]) -> Result<(), Fail>
+fn image_twice(rt: &impl Abort, e: u8, mu: &Partition) -> Result<(), Fail>
     requires e_least { 2 ≤ e }
     requires e_most { e ≤ 64 }
 {
-    let mu = Partition::from_parts(parts).unwrap_or_default();
-    if !mu.is_regular(e) {
-        return Ok(());
-    }
-    let image = mullineux(e, &mu).expect(rt, "an image");
+    assert!(rt; mu.is_regular(e));
+    let image = mullineux(e, mu).expect(rt, "an image");
     assert!(rt; image.is_regular(e));
     let twice = mullineux(e, &image).expect(rt, "an image");
     assert_eq!(rt; twice.parts(), mu.parts());

@@ -5,13 +5,14 @@ mod items;
 mod listing;
 mod order;
 mod partition;
-mod rank;
+mod ranking;
 mod reader;
 mod text;
 
 pub use items::Items;
 pub use listing::{all_of, regular_of};
 pub use partition::{NotPartition, Partition};
+pub use ranking::rank;
 
 /// The greatest degree that the program's commands take.
 pub const DEGREE_LIMIT: u8 = 20;

@@ -1,4 +1,4 @@
-use crate::{Items, NotPartition, Partition, all_of, regular_of};
+use crate::{Items, NotPartition, Partition, all_of, rank, regular_of};
 use std::test::Fail;
 
 fn read(text: &[u8]) -> Result<Partition, Fail> {
@@ -139,7 +139,7 @@ fn lists_partitions(rt: HostRuntime) -> Result<(), Fail> {
 #[test]
 fn ranks_partitions(rt: HostRuntime) -> Result<(), Fail> {
     let four = all_of(rt.alloc(), 4)?;
-    assert_eq!(rt; Partition::rank(&four, &read(b"3,1")?), Some(3));
-    assert_eq!(rt; Partition::rank(&four, &read(b"3,2")?), None);
+    assert_eq!(rt; rank(&four, &read(b"3,1")?), Some(3));
+    assert_eq!(rt; rank(&four, &read(b"3,2")?), None);
     Ok(())
 }

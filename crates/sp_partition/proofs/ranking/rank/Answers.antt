@@ -1,5 +1,5 @@
 use Rattle.sp_partition.proofs.Ranks.{rank_none, rank_some}
-use Rattle.sp_partition.proofs.partition.Partition.rank.Goals as goal
+use Rattle.sp_partition.proofs.ranking.rank.Goals as goal
 
 pub returns-clause-none : goal.returns-clause-none
 returns-clause-none c =
