@@ -67,7 +67,8 @@ unwrapped r P x v h is = (subst (λ o. SomeIff o P v) is h).1
 abbrev pub behind : List ℕ → List (List ℕ) → List (List ℕ)
 behind front tails = map (λ tail. front ++ tail) tails
 
-behind_both : (front run : List ℕ) (tails : List (List ℕ)) → behind (front ++ run) tails ≡ behind front (behind run tails)
+behind_both : (front run : List ℕ) (tails : List (List ℕ)) →
+    behind (front ++ run) tails ≡ behind front (behind run tails)
 behind_both front run [] = refl
 behind_both front run (tail ∷ tails) = ap₂ (λ x xs. x ∷ xs) (append_assoc front run tail) (behind_both front run tails)
 

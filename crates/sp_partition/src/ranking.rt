@@ -10,7 +10,8 @@ use crate::Partition;
 ///
 /// None exactly where `p` isn't in the list.
 pub fn rank(list: &[Partition], p: &Partition) -> Option<usize>
-    requires { (i j : ℕ) → i < j → j < length list.now → order (get_or list.now i []) (get_or list.now j []) ≡ Less }
+    requires { (i j : ℕ) → i < j → j < length list.now →
+        order (get_or list.now i []) (get_or list.now j []) ≡ Less }
     ensures none { IsNone result ↔ ¬ Contains list.now p.now }
     ensures some { (k : ℕ) → (result ≡ Some k) ↔ ((k < length list.now) × (get_or list.now k [] ≡ p.now)) }
 {
