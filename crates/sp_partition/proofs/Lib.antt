@@ -12,3 +12,5 @@ pub mod ItemReading
 pub mod ListReading
 pub mod Progress
 pub mod Canonical
+pub mod Crossing
+pub mod Conjugates
