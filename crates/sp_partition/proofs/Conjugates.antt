@@ -16,13 +16,13 @@ use Rattle.sp_shapes.proofs.Columns.{column, column_reaches, first_longest}
 use Rattle.sp_partition.specs.Held.{IsHeld}
 
 -- Whether a row reaches column c, as a number.
-abbrev reaches : ℕ → ℕ → ℕ
+abbrev pub reaches : ℕ → ℕ → ℕ
 reaches c p = cond (nat_le c p) 1 0
 
-reaches_yes : (c p : ℕ) → c ≤ p → reaches c p ≡ 1
+pub reaches_yes : (c p : ℕ) → c ≤ p → reaches c p ≡ 1
 reaches_yes c p h = ap (λ b. cond b 1 0) (le-leb c p h)
 
-reaches_no : (c p : ℕ) → p < c → reaches c p ≡ 0
+pub reaches_no : (c p : ℕ) → p < c → reaches c p ≡ 0
 reaches_no c p h = ap (λ b. cond b 1 0) (lt-leb c p h)
 
 -- ---- the columns fall
@@ -37,13 +37,13 @@ reaches_less c p = at (le_or_lt (c + 1) p)
 column_falls : (parts : List ℕ) (c : ℕ) → column parts (c + 1) ≤ column parts c
 column_falls parts c = sum_by-le-sum_by (reaches (c + 1)) (reaches c) parts (reaches_less c)
 
-length-conjugate : (parts : List ℕ) → length (conjugate parts) ≡ part parts 1
+pub length-conjugate : (parts : List ℕ) → length (conjugate parts) ≡ part parts 1
 length-conjugate parts = length-map-range_with_len (column parts) 1 (part parts 1)
 
-conjugate_at : (parts : List ℕ) (k d : ℕ) → k < part parts 1 → get_or (conjugate parts) k d ≡ column parts (k + 1)
+pub conjugate_at : (parts : List ℕ) (k d : ℕ) → k < part parts 1 → get_or (conjugate parts) k d ≡ column parts (k + 1)
 conjugate_at parts k d h = get_or-map-range_with_len (column parts) 1 (part parts 1) k (k + 1) d h (omega arith)
 
-past_end : (xs : List ℕ) (k : ℕ) → length xs ≤ k → slice_index xs k ≡ 0
+pub past_end : (xs : List ℕ) (k : ℕ) → length xs ≤ k → slice_index xs k ≡ 0
 past_end xs k h = grind (arith, common_steps)
 
 pub conjugate_partition : (parts : List ℕ) → IsPartition parts → IsPartition (conjugate parts)

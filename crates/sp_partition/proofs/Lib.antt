@@ -14,3 +14,4 @@ pub mod Progress
 pub mod Canonical
 pub mod Crossing
 pub mod Conjugates
+pub mod Involution

@@ -7,7 +7,8 @@ use crate::{CAPACITY, Partition};
 impl Partition {
     /// The partition whose parts are the lengths of the columns.
     pub fn conjugate(&self) -> Partition
-        ensures { result ≡ conjugate_of self.now }
+        ensures columns { result ≡ conjugate_of self.now }
+        ensures involution { conjugate_of (conjugate_of self.now) ≡ self.now }
     {
         let parts = self.parts();
         let width = parts.first().copied().unwrap_or(0);

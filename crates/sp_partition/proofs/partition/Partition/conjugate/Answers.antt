@@ -4,6 +4,7 @@ use Rattle.std.specs.Option.{unwrap_or}
 use Rattle.sp_defs.specs.Partition.{part}
 use Rattle.sp_partition.proofs.Holding.{few_parts}
 use Rattle.sp_partition.proofs.Conjugates.{columns_held, width_is}
+use Rattle.sp_partition.proofs.Involution.{conjugate_twice}
 use Rattle.sp_partition.proofs.partition.Partition.conjugate.Goals as goal
 
 pub column_lengths-columns-requires-clause-few : goal.column_lengths-columns-requires-clause-few
@@ -21,3 +22,6 @@ unwrap-requires c =
     let held = columns_held parts c.column_lengths-columns.result c.unwrap_or-width.result
     c.parts-parts.ensures.held width (rw c.parts-parts.ensures.parts at c.column_lengths-columns.ensures.lengths) in
     rw (c.from_parts.ensures.held.0 held) refl
+
+pub returns-clause-involution : goal.returns-clause-involution
+returns-clause-involution c = conjugate_twice c.args.self.now c.parts-parts.ensures.held.partition
