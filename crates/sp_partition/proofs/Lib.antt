@@ -15,3 +15,6 @@ pub mod Canonical
 pub mod Rising
 pub mod Ranks
 pub mod Listings
+pub mod Crossing
+pub mod Conjugates
+pub mod Involution

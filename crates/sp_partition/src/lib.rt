@@ -1,6 +1,8 @@
 //! Partitions of at most 32: their order, their nodes and their text.
 #![tactic(auto)]
 
+mod conjugate;
+mod dominance;
 mod items;
 mod listing;
 mod order;

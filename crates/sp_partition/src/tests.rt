@@ -143,3 +143,40 @@ fn ranks_partitions(rt: HostRuntime) -> Result<(), Fail> {
     assert_eq!(rt; rank(&four, &read(b"3,2")?), None);
     Ok(())
 }
+
+#[test]
+fn conjugates(rt: HostRuntime) -> Result<(), Fail> {
+    for (text, columns) in [
+        ("-", "-"),
+        ("3,1", "2,1^2"),
+        ("5,3^2", "3^3,1^2"),
+        ("1^32", "32"),
+    ] {
+        let partition = read(text.as_bytes())?;
+        let conjugate = read(columns.as_bytes())?;
+        assert_eq!(rt; partition.conjugate(), conjugate, "{text}");
+        assert_eq!(rt; conjugate.conjugate(), partition, "{text}");
+    }
+    Ok(())
+}
+
+#[test]
+fn compares_by_dominance(rt: HostRuntime) -> Result<(), Fail> {
+    for (upper, lower, expected) in [
+        ("3,1", "2^2", true),
+        ("2^2", "3,1", false),
+        ("4,1^2", "3^2", false),
+        ("3^2", "4,1^2", false),
+        ("-", "-", true),
+        ("3,1", "3,1", true),
+        ("4,1^2", "4,1^2", true),
+        ("32", "1^32", true),
+        ("1^32", "32", false),
+    ] {
+        let first = read(upper.as_bytes())?;
+        let second = read(lower.as_bytes())?;
+        assert_eq!(rt; first.degree(), second.degree());
+        assert_eq!(rt; first.dominates(&second), expected, "{upper} {lower}");
+    }
+    Ok(())
+}
