@@ -50,7 +50,7 @@ rest_is c w a l e = same_laurent c (plus a (negate w)) l (IsLaurent-plus a (nega
 module _ (Good : List ℕ → Type 0) (A : List ℕ → Vector) (tri : Triangle Good A)
     (l : (nu lambda : List ℕ) → IsLaurent (A nu lambda)) (d : ℕ) where
   -- what holds of the keys holds of each share's
-  by_keys : (P : List ℕ → Type 0) (mu : List ℕ) (seg : List (List ℕ)) → AllByRecursion P seg →
+  pub by_keys : (P : List ℕ → Type 0) (mu : List ℕ) (seg : List (List ℕ)) → AllByRecursion P seg →
       AllByRecursion (λ a. P a.0) (shares_over A mu seg)
   by_keys P mu seg h =
       from_keys P (shares_over A mu seg) (subst (λ ks. AllByRecursion P ks) (sym (keys-shares A mu seg)) h)
