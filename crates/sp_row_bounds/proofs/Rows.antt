@@ -1,6 +1,6 @@
 -- The powers in the shares and the regular row of an e-regular partition, and in all that is made on the way: by the
 -- ladder law the ladder vectors are a triangle, whose powers lie within the square of the degree.
-use Rattle.std.proofs.Common.{◌≡◌, ◌≢◌, ℕ, zero, suc, ◌+◌, ◌*◌, ◌≤◌, Bool, true, false, cond, List, [], ◌∷◌, map, length}
+use Rattle.std.proofs.Common.{◌≡◌, ◌≢◌, ℕ, zero, suc, ◌+◌, ◌*◌, ◌≤◌, Bool, true, false, cond, List, [], ◌∷◌, length}
 use Rattle.std.proofs.Common.{filter, drop, refl, sym, ◌∙◌, ap, subst, arith, ◌⊎◌, inl, inr, ℤ, Less}
 use Rattle.std.specs.Int.RustNames.{unsigned_abs}
 use Rattle.std.specs.List.{AllByRecursion}

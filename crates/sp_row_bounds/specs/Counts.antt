@@ -4,6 +4,7 @@ use Rattle.std.specs.List.{range_with_len}
 use Rattle.sp_defs.specs.Partition.{degree, partitions, regulars}
 use Rattle.sp_defs.specs.Row.{earlier}
 use Rattle.sp_defs.specs.Statements.{IsLabel}
+use Rattle.sp_row_bounds.specs.Powers.{row_bound}
 
 -- The numbers of the partitions of 0, 1, 2, .. 32.
 -- (Andrews, The Theory of Partitions, 1976)
@@ -24,3 +25,7 @@ pub record CountLaw : Type 0 where
   pub few_regulars : (e n : ℕ) → length (regulars e n) ≤ length (partitions n)
   -- so a rank is less than the number of partitions
   pub few_earlier : (e : ℕ) (mu : List ℕ) → IsLabel e mu → length (earlier e mu) < length (regulars e (degree mu))
+  -- and the bound on the powers of a row is a number
+  pub row_bound_20 : (e : ℕ) (mu : List ℕ) → IsLabel e mu → degree mu ≤ 20 → row_bound e mu ≤ 250800
+  pub row_bound_30 : (e : ℕ) (mu : List ℕ) → IsLabel e mu → degree mu ≤ 30 → row_bound e mu ≤ 5043600
+  pub row_bound_32 : (e : ℕ) (mu : List ℕ) → IsLabel e mu → degree mu ≤ 32 → row_bound e mu ≤ 8549376
