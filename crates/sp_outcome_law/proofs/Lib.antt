@@ -3,3 +3,4 @@ pub mod Listed
 pub mod Reached
 pub mod Ranks
 pub mod Needed
+pub mod Left
