@@ -4,3 +4,4 @@ pub mod Reached
 pub mod Ranks
 pub mod Needed
 pub mod Left
+pub mod Finding

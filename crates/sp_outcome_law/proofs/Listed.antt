@@ -95,3 +95,26 @@ has_element (x ∷ xs) ne = grind arith
 pub no_element : {X : Type 0} (xs : List X) → nat_lt 0 (length xs) ≡ false → xs ≡ []
 no_element [] h = refl
 no_element (x ∷ xs) h = absurd (let w : nat_lt 0 (length (x ∷ xs)) ≡ true = grind arith in cc)
+
+-- ---- a list about one of its places
+
+pub record IsPlace {X : Type 0} (xs : List X) (i : ℕ) : Type 0 where
+  pub element : X
+  pub lower : List X
+  pub later : List X
+  pub place : length lower ≡ i
+  pub whole : xs ≡ lower ++ (element ∷ later)
+
+pub place_of : {X : Type 0} (xs : List X) (i : ℕ) → i < length xs → IsPlace xs i
+place_of [] i h = absurd (omega arith)
+place_of (x ∷ xs) zero h = record { element = x; lower = []; later = xs; place = refl; whole = refl }
+place_of {X} (x ∷ xs) (suc i) h = more (place_of xs i (omega arith))
+  where
+    more : IsPlace xs i → IsPlace (x ∷ xs) (suc i)
+    more p = record {
+      element = p.element;
+      lower = x ∷ p.lower;
+      later = p.later;
+      place = ap suc p.place;
+      whole = ap (λ r. x ∷ r) p.whole;
+    }
