@@ -20,8 +20,8 @@ use Rattle.sp_triangle.proofs.Shares.{rows, keys-shares, from_keys}
 use Rattle.sp_triangle.proofs.NextShare.{share_of, next_share}
 use Rattle.sp_row_law.proofs.RowsLaw.{ladder_triangle, IsLaurent-ladder_vector}
 use Rattle.sp_outcome_law.specs.Asking.{is_nonzero, share_at, given, next_rank, left}
-use Rattle.sp_outcome_law.proofs.Listed.{find_down, IsPlace, place_of, no_element, has_element}
-use Rattle.sp_outcome_law.proofs.Reached.{next_at, next_zero, Passed, passed_more, passed_start}
+use Rattle.sp_outcome_law.proofs.Listed.{find_down, find_down_none, find_down_some, none_below, IsPlace, place_of, no_element, has_element}
+use Rattle.sp_outcome_law.proofs.Reached.{next_at, next_zero, Passed, passed_more, passed_start, step}
 use Rattle.sp_outcome_law.proofs.Ranks.{label_regular, length_shares, earlier_at}
 use Rattle.sp_outcome_law.proofs.Left.{combination_nonzero, left_same}
 
@@ -149,3 +149,95 @@ module _ (e : ℕ) (mu : List ℕ) (is : IsLabel e mu) where
           (ap (λ a. a.1) (at_cut p.element p.lower p.later p.whole)
           ∙ lift_at_cut p.element p.lower p.later p.whole
           ∙ ap (λ a. lift (left e mu (suc (length p.lower)) a.0)) (sym (at_cut p.element p.lower p.later p.whole)))
+
+  -- ---- the search downwards
+
+  -- the lift of what is left at the partition of the rank i
+  abbrev pub lift_at : ℕ → ℕ → List ℕ → Laurent
+  lift_at t i d = lift (left e mu t (get_or (regulars e (degree mu)) i d))
+
+  -- after ranks without shares, the share at the next lower one is the lift
+  pub share_found : (i t : ℕ) (d : List ℕ) → i < length (earlier e mu) → Passed e mu (suc i) t →
+      share_at e mu i ≡ (get_or (regulars e (degree mu)) i d, lift_at t i d)
+  share_found i t d h p = ap₂ (λ x y. (x, y)) (sym same) value
+    where
+      same : get_or (regulars e (degree mu)) i d ≡ (share_at e mu i).0
+      same = earlier_at e mu is i d h
+
+      value : (share_at e mu i).1 ≡ lift_at t i d
+      value =
+          share_lift i h
+          ∙ ap lift (left_same e mu (suc i) t p (share_at e mu i).0)
+          ∙ ap (λ x. lift (left e mu t x)) (sym same)
+
+  -- so a lift that is 0 is passed
+  pub passed_lift : (i t : ℕ) (d : List ℕ) → i < length (earlier e mu) → Passed e mu (suc i) t → lift_at t i d ≡ [] →
+      Passed e mu i t
+  passed_lift i t d h p z =
+      passed_more e mu i t (ap is_nonzero (share_found i t d h p) ∙ ap (λ q. nat_lt 0 (length q)) z ∙ refl) p
+
+  -- and the first that isn't 0 is the next share
+  pub next_lift : (i t : ℕ) (d : List ℕ) → i < length (earlier e mu) → Passed e mu (suc i) t → lift_at t i d ≢ [] →
+      next_rank e mu t ≡ Some i
+  next_lift i t d h p ne =
+      p.same_next
+      ∙ next_at e mu i
+      ∙ ap (λ b. cond b (Some i) (next_rank e mu i))
+      (ap is_nonzero (share_found i t d h p) ∙ has_element (lift_at t i d) ne)
+
+  -- in one equation
+  pub next_found : (t : ℕ) (d : List ℕ) → t ≤ length (earlier e mu) →
+      next_rank e mu t ≡ find (λ i. nat_lt 0 (length (lift_at t i d))) (reverse (range_with_len 0 t))
+  next_found t d h = down t h (passed_start e mu t)
+    where
+      p : ℕ → Bool
+      p i = nat_lt 0 (length (lift_at t i d))
+
+      down : (i : ℕ) → i ≤ length (earlier e mu) → Passed e mu i t →
+          next_rank e mu i ≡ find p (reverse (range_with_len 0 i))
+      down zero le q = next_zero e mu
+      down (suc i) le q =
+          next_at e mu i
+          ∙ tested (down i (omega (arith, le))) (p i) refl
+          ∙ sym (find_down p i)
+        where
+          same : is_nonzero (share_at e mu i) ≡ p i
+          same = ap is_nonzero (share_found i t d (omega (arith, le)) q)
+
+          tested : (Passed e mu i t → next_rank e mu i ≡ find p (reverse (range_with_len 0 i))) → (b : Bool) → p i ≡ b →
+              cond (is_nonzero (share_at e mu i)) (Some i) (next_rank e mu i)
+              ≡ cond (p i) (Some i) (find p (reverse (range_with_len 0 i)))
+          tested ih true w =
+              ap (λ b. cond b (Some i) (next_rank e mu i)) (same ∙ w)
+              ∙ sym (ap (λ b. cond b (Some i) (find p (reverse (range_with_len 0 i)))) w)
+          tested ih false w =
+              ap (λ b. cond b (Some i) (next_rank e mu i)) (same ∙ w)
+              ∙ ih (passed_more e mu i t (same ∙ w) q)
+              ∙ sym (ap (λ b. cond b (Some i) (find p (reverse (range_with_len 0 i)))) w)
+
+  -- no rank is next exactly where all lifts below are 0
+  pub no_next : (t : ℕ) (d : List ℕ) → t ≤ length (earlier e mu) → ((i : ℕ) → i < t → lift_at t i d ≡ []) →
+      next_rank e mu t ≡ None
+  no_next t d h f =
+      next_found t d h
+      ∙ find_down_none (λ i. nat_lt 0 (length (lift_at t i d))) t (λ i lt. ap (λ q. nat_lt 0 (length q)) (f i lt))
+
+  pub no_lift : (t : ℕ) (d : List ℕ) → t ≤ length (earlier e mu) → next_rank e mu t ≡ None → (i : ℕ) → i < t →
+      lift_at t i d ≡ []
+  no_lift t d h z i lt = no_element (lift_at t i d)
+      (none_below (λ i. nat_lt 0 (length (lift_at t i d))) t (sym (next_found t d h) ∙ z) i lt)
+
+  -- the next rank by the lifts alone
+  pub next_is : (t j : ℕ) (d : List ℕ) → t ≤ length (earlier e mu) → j < t → lift_at t j d ≢ [] →
+      ((i : ℕ) → j < i → i < t → lift_at t i d ≡ []) → next_rank e mu t ≡ Some j
+  next_is t j d h lt ne f =
+      next_found t d h
+      ∙ find_down_some (λ i. nat_lt 0 (length (lift_at t i d))) t j lt (has_element (lift_at t j d) ne)
+      (λ i lo hi. ap (λ q. nat_lt 0 (length q)) (f i lo hi))
+
+  -- and the share there
+  pub next_share_at : (t j : ℕ) (d : List ℕ) → t ≤ length (earlier e mu) → next_rank e mu t ≡ Some j →
+      share_at e mu j ≡ (get_or (regulars e (degree mu)) j d, lift_at t j d)
+  next_share_at t j d h n =
+      let s = step e mu t j n in
+      share_found j t d (omega (arith, h, s.lower)) s.between
