@@ -5,3 +5,4 @@ pub mod Ranks
 pub mod Needed
 pub mod Left
 pub mod Finding
+pub mod Splitting

@@ -61,15 +61,18 @@ filter-drop p (x ∷ xs) (suc t) d h = filter-drop p xs t d h
 
 -- ---- tests of some element
 
+pub true_or : (a b : Bool) → a ≡ true → (a || b) ≡ true
+true_or a b h = ap (λ c. c || b) h
+
+pub or_true : (a b : Bool) → b ≡ true → (a || b) ≡ true
+or_true true b h = refl
+or_true false b h = h
+
 -- an element that passes
 pub some_passes : {X : Type 0} (p : X → Bool) (x : X) (xs : List X) → Occurs x xs → p x ≡ true → list_any p xs ≡ true
 some_passes p x [] o h = absurd o
-some_passes p x (y ∷ xs) (inl e) h = ap (λ b. b || list_any p xs) (ap p (sym e) ∙ h)
-some_passes p x (y ∷ xs) (inr o) h = ap (λ b. p y || b) (some_passes p x xs o h) ∙ or_true (p y)
-  where
-    or_true : (b : Bool) → (b || true) ≡ true
-    or_true true = refl
-    or_true false = refl
+some_passes p x (y ∷ xs) (inl e) h = true_or (p y) (list_any p xs) (ap p (sym e) ∙ h)
+some_passes p x (y ∷ xs) (inr o) h = or_true (p y) (list_any p xs) (some_passes p x xs o h)
 
 -- is there, where the test is true, with what holds of all
 pub passing : {X : Type 0} (p : X → Bool) (xs : List X) → list_any p xs ≡ true →
