@@ -6,3 +6,4 @@ pub mod Needed
 pub mod Left
 pub mod Finding
 pub mod Splitting
+pub mod Decided

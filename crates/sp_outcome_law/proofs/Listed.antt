@@ -2,9 +2,11 @@
 use Rattle.std.proofs.Common.{◌≡◌, ℕ, zero, suc, ◌+◌, Bool, true, false, cond, ◌||◌, List, [], ◌∷◌, ◌++◌, filter, drop}
 use Rattle.std.proofs.Common.{get_or, reverse, refl, sym, ◌∙◌, ap, ap₂, arith, zero-add, Some, None, eq-or-lt_of_le, ◌≤◌, ◌<◌, ◌⊎◌, inl, inr, length}
 use Rattle.std.proofs.Common.{nat_lt, ◌≢◌, Contains}
-use Rattle.std.specs.List.{AllByRecursion, find, list_any, range_with_len}
+use Rattle.std.proofs.Common.{map, max, fold, sum_by, ltb-true, lt-ltb}
+use Rattle.std.specs.List.{find, list_any, range_with_len}
+use Rattle.std.proofs.lemmas.List.Sums.{sum_by-cons}
 use Rattle.std.proofs.lemmas.List.{reverse-append}
-use Rattle.sp_lists.proofs.Elements.{range_snoc, or_split}
+use Rattle.sp_lists.proofs.Elements.{range_snoc, or_split, le_or_lt}
 use Rattle.sp_shapes.proofs.Listing.{Occurs}
 
 -- the greatest number that passes is the last, or the greatest of the others
@@ -157,3 +159,76 @@ place_of {X} (x ∷ xs) (suc i) h = more (place_of xs i (omega arith))
       place = ap suc p.place;
       whole = ap (λ r. x ∷ r) p.whole;
     }
+
+-- ---- tests of some element, over other lists
+
+pub any_alike : {X : Type 0} (p q : X → Bool) (xs : List X) → ((x : X) → p x ≡ q x) → list_any p xs ≡ list_any q xs
+any_alike p q [] f = refl
+any_alike p q (x ∷ xs) f = ap₂ (λ a b. a || b) (f x) (any_alike p q xs f)
+
+pub any-map : {X Y : Type 0} (p : Y → Bool) (f : X → Y) (xs : List X) →
+    list_any p (map f xs) ≡ list_any (λ x. p (f x)) xs
+any-map p f [] = refl
+any-map p f (x ∷ xs) = ap (λ b. p (f x) || b) (any-map p f xs)
+
+pub none_passes : {X : Type 0} (p : X → Bool) (xs : List X) → ((x : X) → Occurs x xs → p x ≡ false) →
+    list_any p xs ≡ false
+none_passes p [] f = refl
+none_passes p (x ∷ xs) f = ap₂ (λ a b. a || b) (f x (inl refl)) (none_passes p xs (λ y o. f y (inr o)))
+
+-- ---- the greatest number is past a bound where one of them is
+
+pub past_max : (b m n : ℕ) → nat_lt b (max m n) ≡ (nat_lt b m || nat_lt b n)
+past_max b m n = same_tests (nat_lt b (max m n)) (nat_lt b m || nat_lt b n)
+    (λ h. settle (ltb-true b (max m n) h) (le_or_lt m b))
+    (λ h. back (or_split (nat_lt b m) (nat_lt b n) h))
+  where
+    settle : b < max m n → (m ≤ b) ⊎ (b < m) → (nat_lt b m || nat_lt b n) ≡ true
+    settle h (inl le) = or_true (nat_lt b m) (nat_lt b n) (lt-ltb b n (omega (arith, h, le)))
+    settle h (inr lt) = true_or (nat_lt b m) (nat_lt b n) (lt-ltb b m lt)
+
+    back : (nat_lt b m ≡ true) ⊎ (nat_lt b n ≡ true) → nat_lt b (max m n) ≡ true
+    back (inl h) = lt-ltb b (max m n) (omega (arith, ltb-true b m h))
+    back (inr h) = lt-ltb b (max m n) (omega (arith, ltb-true b n h))
+
+pub or_assoc : (a b c : Bool) → ((a || b) || c) ≡ (a || (b || c))
+or_assoc true b c = refl
+or_assoc false b c = refl
+
+pub or_false : (a : Bool) → (a || false) ≡ a
+or_false true = refl
+or_false false = refl
+
+fold_past : (b start : ℕ) (xs : List ℕ) → nat_lt b (fold max start xs) ≡ (nat_lt b start || list_any (nat_lt b) xs)
+fold_past b start [] = sym (or_false (nat_lt b start))
+fold_past b start (x ∷ xs) =
+    fold_past b (max start x) xs
+    ∙ ap (λ t. t || list_any (nat_lt b) xs) (past_max b start x)
+    ∙ or_assoc (nat_lt b start) (nat_lt b x) (list_any (nat_lt b) xs)
+
+pub greatest_past : (b : ℕ) (xs : List ℕ) → nat_lt b (fold max 0 xs) ≡ list_any (nat_lt b) xs
+greatest_past b xs = fold_past b 0 xs ∙ ap (λ t. t || list_any (nat_lt b) xs) (nothing b)
+  where
+    nothing : (b : ℕ) → nat_lt b 0 ≡ false
+    nothing b = grind arith
+
+-- ---- the elements from a place on
+
+pub occurs_drop : {X : Type 0} (x : X) (t : ℕ) (xs : List X) → Occurs x (drop t xs) → Occurs x xs
+occurs_drop x zero [] o = o
+occurs_drop x (suc t) [] o = o
+occurs_drop x zero (y ∷ xs) o = o
+occurs_drop x (suc t) (y ∷ xs) o = inr (occurs_drop x t xs o)
+
+-- what passes a test from a place on sums to no more than all that passes
+pub sum_drop : {X : Type 0} (p : X → Bool) (f : X → ℕ) (t : ℕ) (xs : List X) →
+    sum_by f (filter p (drop t xs)) ≤ sum_by f (filter p xs)
+sum_drop p f zero [] = omega arith
+sum_drop p f (suc t) [] = omega arith
+sum_drop p f zero (y ∷ xs) = omega arith
+sum_drop {X} p f (suc t) (y ∷ xs) = tested (p y) (sum_drop p f t xs)
+  where
+    tested : (b : Bool) → sum_by f (filter p (drop t xs)) ≤ sum_by f (filter p xs) →
+        sum_by f (filter p (drop t xs)) ≤ sum_by f (cond b (y ∷ filter p xs) (filter p xs))
+    tested true ih = omega (arith, ih, sum_by-cons f y (filter p xs))
+    tested false ih = ih
