@@ -6,4 +6,5 @@ pub mod Needed
 pub mod Left
 pub mod Finding
 pub mod Splitting
+pub mod Next
 pub mod Decided

@@ -70,6 +70,11 @@ pub or_true : (a b : Bool) → b ≡ true → (a || b) ≡ true
 or_true true b h = refl
 or_true false b h = h
 
+-- neither is true
+pub or_fits : (a b : Bool) → (a || b) ≡ false → (a ≡ false) × (b ≡ false)
+or_fits true b h = absurd (cc)
+or_fits false b h = (refl, h)
+
 -- an element that passes
 pub some_passes : {X : Type 0} (p : X → Bool) (x : X) (xs : List X) → Occurs x xs → p x ≡ true → list_any p xs ≡ true
 some_passes p x [] o h = absurd o
