@@ -3,6 +3,7 @@
 use Rattle.std.proofs.Common.{◌≡◌, ℕ, ◌+◌, ◌*◌, ◌<◌, ◌≤◌, Bool, true, false, cond, ◌||◌, nat_lt, max, fold, List, [], ◌∷◌}
 use Rattle.std.proofs.Common.{map, filter, refl, sym, ◌∙◌, ap, ap₂, subst, arith, sum_by, Option, Some, None, ◌⊎◌, inl, inr}
 use Rattle.std.proofs.Common.{length, ltb-true, lt-ltb, ltb-false, le-ltb, drop}
+use Rattle.std.proofs.Math.Bool.{or-false}
 use Rattle.std.specs.List.{list_any}
 use Rattle.sp_defs.specs.Partition.{degree, partitions, IsPartitionOf}
 use Rattle.sp_defs.specs.Laurent.{Laurent, size, one}
@@ -15,7 +16,7 @@ use Rattle.sp_shapes.proofs.Listing.{Occurs, at_occurs, occurs_filter, each_part
 use Rattle.sp_ladder_law.proofs.Weights.{partial_whole, within_weight, degree_after_all}
 use Rattle.sp_outcome_law.specs.Asking.{is_nonzero, share_at, given, next_rank, total, is_too_large, given_past}
 use Rattle.sp_outcome_law.specs.Asking.{total_past, share_past, is_past, asked}
-use Rattle.sp_outcome_law.proofs.Listed.{any_alike, any-map, past_max, greatest_past, or_assoc, or_false, true_or, or_true}
+use Rattle.sp_outcome_law.proofs.Listed.{any_alike, any-map, past_max, greatest_past, true_or, or_true}
 use Rattle.sp_outcome_law.proofs.Listed.{some_passes, passing, from_filter, occurs_drop, sum_drop, none_passes, or_fits}
 use Rattle.sp_outcome_law.proofs.Reached.{Passed, all_passed, given_none, step, next_zero}
 use Rattle.sp_outcome_law.proofs.Ranks.{length_shares}
@@ -261,7 +262,7 @@ module _ (e limit : ℕ) (mu : List ℕ) (is : IsLabel e mu) where
       others = total_past e limit mu j || share_past e limit mu (next_rank e mu j)
 
       kept : (a b c d : Bool) → a ≡ false → c ≡ false → (a || ((b || c) || d)) ≡ (b || d)
-      kept a b c d x y = ap₂ (λ u w. u || ((b || w) || d)) x y ∙ ap (λ u. u || d) (or_false b)
+      kept a b c d x y = ap₂ (λ u w. u || ((b || w) || d)) x y ∙ ap (λ u. u || d) (or-false b)
 
   -- and at the start they are the ladder vector's weight and the first share
   pub past_start : (t : ℕ) → length (earlier e mu) ≤ t →

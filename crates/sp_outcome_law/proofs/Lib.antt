@@ -8,3 +8,4 @@ pub mod Finding
 pub mod Splitting
 pub mod Next
 pub mod Decided
+pub mod Earlier

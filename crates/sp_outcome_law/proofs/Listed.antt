@@ -3,6 +3,7 @@ use Rattle.std.proofs.Common.{◌≡◌, ℕ, zero, suc, ◌+◌, Bool, true, fa
 use Rattle.std.proofs.Common.{get_or, reverse, refl, sym, ◌∙◌, ap, ap₂, arith, zero-add, Some, None, eq-or-lt_of_le, ◌≤◌, ◌<◌, ◌⊎◌, inl, inr, length}
 use Rattle.std.proofs.Common.{nat_lt, ◌≢◌, Contains}
 use Rattle.std.proofs.Common.{map, max, fold, sum_by, ltb-true, lt-ltb}
+use Rattle.std.proofs.Math.Bool.{or_assoc, or-false}
 use Rattle.std.specs.List.{find, list_any, range_with_len}
 use Rattle.std.proofs.lemmas.List.Sums.{sum_by-cons}
 use Rattle.std.proofs.lemmas.List.{reverse-append}
@@ -196,16 +197,8 @@ past_max b m n = same_tests (nat_lt b (max m n)) (nat_lt b m || nat_lt b n)
     back (inl h) = lt-ltb b (max m n) (omega (arith, ltb-true b m h))
     back (inr h) = lt-ltb b (max m n) (omega (arith, ltb-true b n h))
 
-pub or_assoc : (a b c : Bool) → ((a || b) || c) ≡ (a || (b || c))
-or_assoc true b c = refl
-or_assoc false b c = refl
-
-pub or_false : (a : Bool) → (a || false) ≡ a
-or_false true = refl
-or_false false = refl
-
 fold_past : (b start : ℕ) (xs : List ℕ) → nat_lt b (fold max start xs) ≡ (nat_lt b start || list_any (nat_lt b) xs)
-fold_past b start [] = sym (or_false (nat_lt b start))
+fold_past b start [] = sym (or-false (nat_lt b start))
 fold_past b start (x ∷ xs) =
     fold_past b (max start x) xs
     ∙ ap (λ t. t || list_any (nat_lt b) xs) (past_max b start x)
