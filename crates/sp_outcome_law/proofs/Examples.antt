@@ -2,7 +2,7 @@
 use Rattle.std.proofs.Common.{◌≡◌, [], ◌∷◌, refl, pos, true, false, Some, None}
 use Rattle.sp_defs.specs.Partition.{partitions, partitions_within, regulars}
 use Rattle.sp_defs.specs.Node.{nodes_from}
-use Rattle.sp_defs.specs.Laurent.{add_term, collect, plus, negate, products, times, lift, int_sum, sum_over, one, power}
+use Rattle.sp_defs.specs.Laurent.{add_term, collect, plus, negate, products, times, lift, int_sum, sum_over}
 use Rattle.sp_defs.specs.Power.{is_move, exponent, sources, vector_of}
 use Rattle.sp_defs.specs.Ladder.{on_ladder, ladders, steps, chains_to, chain_exponent, chain_sum, ladder_vector}
 use Rattle.sp_defs.specs.Ladder.{partial_ladder_vector, ladder_weight}

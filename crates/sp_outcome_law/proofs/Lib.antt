@@ -8,4 +8,5 @@ pub mod Finding
 pub mod Splitting
 pub mod Next
 pub mod Decided
+pub mod Asked
 pub mod Earlier

@@ -1,6 +1,7 @@
 -- Lists by places: a search downwards, what a filter keeps from a place on, and tests of some element.
-use Rattle.std.proofs.Common.{◌≡◌, ℕ, zero, suc, ◌+◌, Bool, true, false, cond, ◌||◌, List, [], ◌∷◌, ◌++◌, filter, drop}
-use Rattle.std.proofs.Common.{get_or, reverse, refl, sym, ◌∙◌, ap, ap₂, arith, zero-add, Some, None, eq-or-lt_of_le, ◌≤◌, ◌<◌, ◌⊎◌, inl, inr, length}
+use Rattle.std.proofs.Common.{◌≡◌, ℕ, zero, suc, Bool, true, false, cond, ◌||◌, List, [], ◌∷◌, ◌++◌, filter, drop}
+use Rattle.std.proofs.Common.{get_or, reverse, refl, sym, ◌∙◌, ap, ap₂, arith, zero-add, Some, None, eq-or-lt_of_le}
+use Rattle.std.proofs.Common.{◌≤◌, ◌<◌, ◌⊎◌, inl, inr, length}
 use Rattle.std.proofs.Common.{nat_lt, ◌≢◌, Contains}
 use Rattle.std.proofs.Common.{map, max, fold, sum_by, ltb-true, lt-ltb}
 use Rattle.std.proofs.Math.Bool.{or_assoc, or-false}

@@ -1,8 +1,8 @@
 -- What has been given, and which rank is next, rank by rank.
-use Rattle.std.proofs.Common.{◌≡◌, ℕ, zero, suc, ◌+◌, ◌<◌, ◌≤◌, Bool, true, false, cond, List, [], ◌∷◌, length, refl}
-use Rattle.std.proofs.Common.{sym, ◌∙◌, ap, subst, arith, Option, Some, None, filter, drop}
+use Rattle.std.proofs.Common.{◌≡◌, ℕ, zero, suc, ◌<◌, ◌≤◌, Bool, true, false, cond, List, [], ◌∷◌, length, refl}
+use Rattle.std.proofs.Common.{sym, ◌∙◌, ap, subst, arith, Some, None, filter}
 use Rattle.std.proofs.lemmas.List.{drop_all}
-use Rattle.sp_defs.specs.Row.{Factors, shares}
+use Rattle.sp_defs.specs.Row.{shares}
 use Rattle.sp_outcome_law.specs.Asking.{is_nonzero, share_at, given, next_rank}
 use Rattle.sp_outcome_law.proofs.Listed.{find_down, filter-drop}
 
