@@ -80,3 +80,20 @@ unfolding given shares shares_over factors combination lift negate times product
     ladder_vector chain_sum chains_to chain_exponent steps ladders on_ladder sources is_move exponent
     partitions partitions_within nodes_from sum_over plus collect add_term int_sum
 given_7 = refl
+
+-- the limit 5 is passed once both are given, the limit 6 is not
+pub past_7 : is_past 2 5 (7 ∷ []) 0 ≡ true
+unfolding asked is_past share_past total_past given_past total left given share_at next_rank
+    outcome needed_among vector_of weight ladder_weight partial_ladder_vector shares shares_over
+    regular_row factors combination lift negate times products regulars
+    ladder_vector chain_sum chains_to chain_exponent steps ladders on_ladder sources is_move exponent
+    partitions partitions_within nodes_from sum_over plus collect add_term int_sum
+past_7 = refl
+
+pub within_7 : is_past 2 6 (7 ∷ []) 0 ≡ false
+unfolding asked is_past share_past total_past given_past total left given share_at next_rank
+    outcome needed_among vector_of weight ladder_weight partial_ladder_vector shares shares_over
+    regular_row factors combination lift negate times products regulars
+    ladder_vector chain_sum chains_to chain_exponent steps ladders on_ladder sources is_move exponent
+    partitions partitions_within nodes_from sum_over plus collect add_term int_sum
+within_7 = refl
