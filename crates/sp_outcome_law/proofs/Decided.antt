@@ -17,7 +17,8 @@ use Rattle.sp_shapes.proofs.Listing.{Occurs, at_occurs, occurs_filter, each_part
 use Rattle.sp_ladder_law.proofs.Weights.{partial_whole, within_weight, degree_after_all}
 use Rattle.sp_outcome_law.specs.Asking.{is_nonzero, share_at, given, next_rank, total, is_too_large, given_past}
 use Rattle.sp_outcome_law.specs.Asking.{total_past, share_past, is_past}
-use Rattle.sp_outcome_law.proofs.Listed.{any_alike, any-map, past_max, greatest_past, true_or, or_true}
+use Rattle.sp_outcome_law.proofs.Listed.{any_alike, any-map, true_or, or_true}
+use Rattle.sp_outcome_law.proofs.Exceeding.{past_max, greatest_past}
 use Rattle.sp_outcome_law.proofs.Listed.{some_passes, passing, from_filter, occurs_drop, sum_drop, none_passes, or_fits}
 use Rattle.sp_outcome_law.proofs.Reached.{Passed, all_passed, given_none, step, next_zero}
 use Rattle.sp_outcome_law.proofs.Ranks.{length_shares}

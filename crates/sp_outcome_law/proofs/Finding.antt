@@ -19,7 +19,8 @@ use Rattle.sp_triangle.proofs.Shares.{rows, keys-shares, from_keys}
 use Rattle.sp_triangle.proofs.NextShare.{share_of, next_share}
 use Rattle.sp_row_law.proofs.RowsLaw.{ladder_triangle, IsLaurent-ladder_vector}
 use Rattle.sp_outcome_law.specs.Asking.{is_nonzero, share_at, given, next_rank, left}
-use Rattle.sp_outcome_law.proofs.Listed.{find_down, find_down_none, find_down_some, none_below, IsPlace, place_of}
+use Rattle.sp_outcome_law.proofs.Listed.{IsPlace, place_of}
+use Rattle.sp_outcome_law.proofs.Downwards.{find_down, find_down_none, find_down_some, none_below}
 use Rattle.sp_outcome_law.proofs.Listed.{no_element, has_element}
 use Rattle.sp_outcome_law.proofs.Reached.{next_at, next_zero, Passed, passed_more, passed_start, step}
 use Rattle.sp_outcome_law.proofs.Ranks.{label_regular, earlier_at}

@@ -1,5 +1,7 @@
 pub mod Examples
 pub mod Listed
+pub mod Downwards
+pub mod Exceeding
 pub mod Reached
 pub mod Ranks
 pub mod Needed

@@ -4,7 +4,8 @@ use Rattle.std.proofs.Common.{sym, ◌∙◌, ap, subst, arith, Some, None, filt
 use Rattle.std.proofs.lemmas.List.{drop_all}
 use Rattle.sp_defs.specs.Row.{shares}
 use Rattle.sp_outcome_law.specs.Asking.{is_nonzero, share_at, given, next_rank}
-use Rattle.sp_outcome_law.proofs.Listed.{find_down, filter-drop}
+use Rattle.sp_outcome_law.proofs.Listed.{filter-drop}
+use Rattle.sp_outcome_law.proofs.Downwards.{find_down}
 
 -- ---- one rank
 
