@@ -1,0 +1,14 @@
+pub mod Examples
+pub mod Listed
+pub mod Downwards
+pub mod Exceeding
+pub mod Reached
+pub mod Ranks
+pub mod Needed
+pub mod Left
+pub mod Finding
+pub mod Splitting
+pub mod Next
+pub mod Decided
+pub mod Asked
+pub mod Earlier

@@ -1,0 +1,2 @@
+//! How a row is reached share by share, and when its outcome is decided.
+#![tactic(auto)]
