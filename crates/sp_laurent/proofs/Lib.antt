@@ -8,3 +8,5 @@ pub mod Mirroring
 pub mod Lower
 pub mod Symmetry
 pub mod Slopes
+pub mod Fronts
+pub mod Reading
