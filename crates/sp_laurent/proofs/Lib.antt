@@ -10,3 +10,4 @@ pub mod Symmetry
 pub mod Slopes
 pub mod Fronts
 pub mod Reading
+pub mod Terms

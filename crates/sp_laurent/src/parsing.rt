@@ -2,7 +2,7 @@
 //! compared with what was read.
 ghost use Rattle.std.specs.Prelude.{◌≡◌, ◌↔◌, ℕ, ◌^◌, ◌<◌, ◌++◌, List, length, IfOk, OnOk, IsTrue, IsErrOf, MatchResult};
 ghost use Rattle.std.specs.List.{AllByRecursion};
-ghost use Rattle.sp_defs.specs.Laurent.{Laurent, Term, size, monomial};
+ghost use Rattle.sp_defs.specs.Laurent.{Laurent as Polynomial, Term, size, monomial};
 ghost use Rattle.sp_defs.specs.Text.{polynomial_text};
 ghost use Rattle.sp_laurent.specs.Readable.{IsReadable};
 ghost use Rattle.sp_laurent.specs.Pieces.{IsGood, Begins, Ascends};
@@ -32,7 +32,7 @@ fn push_next<'a>(terms: &mut Vec<Term>, text: &'a [u8]) -> Result<&'a [u8], Pars
 // The terms of a text, as far as it is one.
 fn read_terms(alloc: Global, text: &[u8]) -> Result<Vec<Term>, ParseFault>
     ensures good { IfOk result (λ terms. AllByRecursion IsGood terms.items) }
-    ensures reads { (p : Laurent) → IsReadable p → polynomial_text p ≡ text.now →
+    ensures reads { (p : Polynomial) → IsReadable p → polynomial_text p ≡ text.now →
         MatchResult result (λ terms. terms.items ≡ p) (λ fault. fault ≡ ParseFault.Memory) }
 {
     let mut terms = Vec::new(alloc);
@@ -68,6 +68,15 @@ fn is_small(terms: &[Term]) -> bool
     true
 }
 
+// Whether these are the terms of a polynomial that is read.
+#[tactic(auto, using(crate::proofs::Terms::readable_from, crate::proofs::Terms::readable_test))]
+fn is_readable(terms: &[Term]) -> bool
+    requires { AllByRecursion IsGood terms.now }
+    ensures { IsTrue result ↔ IsReadable terms.now }
+{
+    ascends(terms) && is_small(terms)
+}
+
 // Whether this is the text of the polynomial with these terms.
 fn is_text(alloc: Global, terms: &[Term], text: &[u8]) -> Result<bool, AllocError>
     ensures { IfOk result (λ same. IsTrue same ↔ (polynomial_text terms.now ≡ text.now)) }
@@ -83,13 +92,13 @@ impl Laurent {
     /// `NotLaurent` where the text is that of no such polynomial.
     pub fn parse(alloc: Global, text: &[u8]) -> Result<Laurent, ParseFault>
         ensures ok { IfOk result (λ p. IsReadable p × (polynomial_text p ≡ text.now)) }
-        ensures reads { (p : Laurent) → IsReadable p → polynomial_text p ≡ text.now →
+        ensures reads { (p : Polynomial) → IsReadable p → polynomial_text p ≡ text.now →
             MatchResult result (λ q. q ≡ p) (λ fault. fault ≡ ParseFault.Memory) }
         ensures not_laurent { ¬ IsErrOf result ParseFault.Memory → IsErrOf result ParseFault.NotLaurent
-            ↔ ((p : Laurent) → IsReadable p → ¬ (polynomial_text p ≡ text.now)) }
+            ↔ ((p : Polynomial) → IsReadable p → ¬ (polynomial_text p ≡ text.now)) }
     {
         let terms = read_terms(alloc, text)?;
-        if ascends(&terms) && is_small(&terms) && is_text(alloc, &terms, text)? {
+        if is_readable(&terms) && is_text(alloc, &terms, text)? {
             Ok(Laurent { terms })
         } else {
             Err(ParseFault::NotLaurent)
