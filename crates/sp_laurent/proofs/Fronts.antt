@@ -1,6 +1,6 @@
 -- What stands in front of a text: digits, and marks.
 use Rattle.std.proofs.Common.{◌≡◌, ℕ, zero, suc, ◌+◌, ◌-◌, ◌*◌, ◌^◌, ◌<◌, ◌≤◌, ◌⊎◌, inl, inr, true, false, min, List, []}
-use Rattle.std.proofs.Common.{nat_eq, cond, ◌∷◌, ◌++◌, take, drop, length, slice_index, Option, Some, None, refl, sym, ◌∙◌, ap, subst, arith}
+use Rattle.std.proofs.Common.{nat_eq, cond, ◌∷◌, ◌++◌, take, drop, length, slice_index, Some, None, refl, ◌∙◌, ap, subst, arith}
 use Rattle.std.specs.Char.{is_ascii_digit, digit_value}
 use Rattle.std.specs.Fmt.{decimal}
 use Rattle.std.specs.Str.Parse.{AllDigits, IsNumeral, digits_value}
@@ -87,14 +87,6 @@ other_mark mark least most text rest out s =
 
     at : (c : ℕ) (xs : List ℕ) → nat_eq c mark ≡ false → behind_mark mark (c ∷ xs) ≡ None
     at c xs e = ap (λ b. cond b (Some xs) None) e
-
-pub no_mark_in_signed : (mark : ℕ) (rest : List ℕ) → 45 < mark → IsSigned rest → behind_mark mark rest ≡ None
-no_mark_in_signed mark [] high h = refl
-no_mark_in_signed mark (c ∷ rest) high h = ap (λ b. cond b (Some rest) None) (differs h)
-  where
-    differs : (c ≡ 43) ⊎ (c ≡ 45) → nat_eq c mark ≡ false
-    differs (inl e) = grind (arith, nat_tests)
-    differs (inr e) = grind (arith, nat_tests)
 
 starts_digit : (ds : List ℕ) → IsNumeral 10 ds → StartsWithin 48 57 ds
 starts_digit [] h = absurd (omega (arith, h.0))

@@ -1,18 +1,17 @@
 -- Terms in front of a text, as they are read.
-use Rattle.std.proofs.Common.{◌≡◌, ◌≢◌, ℕ, zero, suc, ◌+◌, ◌<◌, ◌≤◌, ◌^◌, ◌==◌, ◌⊎◌, inl, inr, Bool, true, false, cond, nat_eq}
-use Rattle.std.proofs.Common.{int_lt, neg_ℤ, List, [], ◌∷◌, ◌++◌, codes, length, Option, Some, None, ℤ, pos, negsuc, refl, sym, ◌∙◌, ap}
-use Rattle.std.proofs.Common.{subst, arith, append_assoc, length-append}
+use Rattle.std.proofs.Common.{◌≡◌, ℕ, suc, ◌<◌, ◌^◌, ◌==◌, ◌⊎◌, inl, inr, Bool, true, false, cond}
+use Rattle.std.proofs.Common.{int_lt, neg_ℤ, List, [], ◌∷◌, ◌++◌, codes, length, Some, None, ℤ, pos, negsuc, refl, sym, ◌∙◌, ap}
+use Rattle.std.proofs.Common.{arith, append_assoc, length-append}
 use Rattle.std.specs.Int.RustNames.{unsigned_abs}
 use Rattle.std.specs.Ordering.{int_eq}
 use Rattle.std.specs.Fmt.{decimal, signed_decimal}
 use Rattle.std.proofs.lemmas.Bool.Decides.{nat_tests}
 use Rattle.std.proofs.lemmas.Int.{ints}
-use Rattle.sp_defs.specs.Laurent.{Laurent, Term}
+use Rattle.sp_defs.specs.Laurent.{Term}
 use Rattle.sp_defs.specs.Text.{is_negative, power_text, term_text, signed_term_text}
 use Rattle.sp_algebra.proofs.Coefficients.{by_eq}
-use Rattle.sp_laurent.specs.Readable.{read_limit}
-use Rattle.sp_laurent.specs.Pieces.{IsPlain, IsSigned, behind_mark, power_part, first_term_text, IsSmall, Begins}
-use Rattle.sp_laurent.proofs.Fronts.{StartsWithin, other_mark, no_mark_in_signed, decimal_starts, sign_plain}
+use Rattle.sp_laurent.specs.Pieces.{IsPlain, IsSigned, behind_mark, power_part, first_term_text, Begins}
+use Rattle.sp_laurent.proofs.Fronts.{StartsWithin, other_mark, decimal_starts, sign_plain}
 
 some_none : {X : Type 0} {x : X} → Some x ≡ None → ⊥
 some_none e = cc
@@ -21,19 +20,6 @@ some_same : {X : Type 0} {x y : X} → Some x ≡ Some y → x ≡ y
 some_same e = cc
 
 -- ---- powers
-
--- How the text of a power begins, by the power.
-pub data PowerText (k : ℤ) (rest text : List ℕ) : Type 0 where
-  nothing : k ≡ pos 0 → text ≡ rest → PowerText k rest text
-  once : k ≡ pos 1 → text ≡ 118 ∷ rest → PowerText k rest text
-  raised : k ≢ pos 0 → text ≡ 118 ∷ 94 ∷ (signed_decimal k ++ rest) → PowerText k rest text
-
-pub power_cases : (k : ℤ) (rest text : List ℕ) → text ≡ power_part k ++ rest → PowerText k rest text
-power_cases k rest text =
-    by_eq k (pos 0) (λ b. text ≡ cond b [] (power_text k) ++ rest → PowerText k rest text)
-    (λ e is. nothing e is)
-    (λ ne. by_eq k (pos 1) (λ b. text ≡ cond b (codes "v") (codes "v^" ++ signed_decimal k) ++ rest →
-    PowerText k rest text) (λ e is. once e is) (λ _ is. raised ne is))
 
 power_starts : (k : ℤ) → StartsWithin 118 118 (power_text k)
 power_starts k =
@@ -83,12 +69,20 @@ term_cases k c rest text =
 
 widened : (text : List ℕ) → StartsWithin 48 57 text → StartsWithin 48 118 text
 widened text s = record {
-  first = s.first; others = s.others; is = s.is; above = s.above; below = omega (arith, s.below);
+  first = s.first;
+  others = s.others;
+  is = s.is;
+  above = s.above;
+  below = omega (arith, s.below);
 }
 
 onward : (text more : List ℕ) (low high : ℕ) → StartsWithin low high text → StartsWithin low high (text ++ more)
 onward text more low high s = record {
-  first = s.first; others = s.others ++ more; is = ap (λ xs. xs ++ more) s.is; above = s.above; below = s.below;
+  first = s.first;
+  others = s.others ++ more;
+  is = ap (λ xs. xs ++ more) s.is;
+  above = s.above;
+  below = s.below;
 }
 
 pub term_starts : (k c : ℤ) → unsigned_abs c < 2 ^ 127 → StartsWithin 48 118 (term_text (k, c))
@@ -99,7 +93,11 @@ term_starts k c small =
       | true ↦ number
       | false ↦ elim (n == 1) as (λ b. StartsWithin 48 118 (cond b [] (decimal n) ++ power_text k)) [
         | true ↦ let s = power_starts k in record {
-          first = s.first; others = s.others; is = s.is; above = omega (arith, s.above); below = s.below;
+          first = s.first;
+          others = s.others;
+          is = s.is;
+          above = omega (arith, s.above);
+          below = s.below;
         }
         | false ↦ onward (decimal n) (power_text k) 48 118 number
       ]
@@ -190,39 +188,6 @@ whole_read (negsuc n) rest text digits left negative number small plain is m h =
   where
     below : (n : ℕ) → true ≡ int_lt (negsuc n) (pos 0)
     below n = grind (arith, ints)
-
-pub no_power : (k : ℤ) (rest text : List ℕ) → text ≡ power_part k ++ rest → behind_mark 118 text ≡ None →
-    (pos 0 ≡ k) × (text ≡ rest)
-no_power k rest text is none = by_power (power_cases k rest text is)
-  where
-    by_power : PowerText k rest text → (pos 0 ≡ k) × (text ≡ rest)
-    by_power (nothing e i) = (sym e, i)
-    by_power (once e i) = absurd (some_none (sym (ap (behind_mark 118) i) ∙ none))
-    by_power (raised e i) = absurd (some_none (sym (ap (behind_mark 118) i) ∙ none))
-
-pub first_power : (k : ℤ) (rest text mark : List ℕ) → IsSigned rest → text ≡ power_part k ++ rest →
-    behind_mark 118 text ≡ Some mark → behind_mark 94 mark ≡ None → (pos 1 ≡ k) × (mark ≡ rest)
-first_power k rest text mark signed is some none = by_power (power_cases k rest text is)
-  where
-    by_power : PowerText k rest text → (pos 1 ≡ k) × (mark ≡ rest)
-    by_power (nothing e i) =
-        absurd (some_none (sym some ∙ ap (behind_mark 118) i ∙ no_mark_in_signed 118 rest (omega arith) signed))
-    by_power (once e i) = let h = ap (behind_mark 118) i in (sym e, some_same (sym some ∙ h))
-    by_power (raised e i) =
-        absurd (some_none (sym (ap (behind_mark 94) (some_same (sym some ∙ ap (behind_mark 118) i))) ∙ none))
-
-pub later_power : (k : ℤ) (rest text mark exponent : List ℕ) → IsSigned rest → text ≡ power_part k ++ rest →
-    behind_mark 118 text ≡ Some mark → behind_mark 94 mark ≡ Some exponent → exponent ≡ signed_decimal k ++ rest
-later_power k rest text mark exponent signed is some more = by_power (power_cases k rest text is)
-  where
-    by_power : PowerText k rest text → exponent ≡ signed_decimal k ++ rest
-    by_power (nothing e i) =
-        absurd (some_none (sym some ∙ ap (behind_mark 118) i ∙ no_mark_in_signed 118 rest (omega arith) signed))
-    by_power (once e i) =
-        absurd (some_none (sym more ∙ ap (behind_mark 94) (some_same (sym some ∙ ap (behind_mark 118) i))
-        ∙ no_mark_in_signed 94 rest (omega arith) signed))
-    by_power (raised e i) =
-        some_same (sym more ∙ ap (behind_mark 94) (some_same (sym some ∙ ap (behind_mark 118) i)))
 
 pub factor_one : (k c : ℤ) (rest text behind : List ℕ) → unsigned_abs c < 2 ^ 127 → text ≡ term_text (k, c) ++ rest →
     behind_mark 118 text ≡ Some behind → (1 ≡ unsigned_abs c) × (text ≡ power_part k ++ rest)

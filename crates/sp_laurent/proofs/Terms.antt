@@ -1,21 +1,19 @@
 -- The terms of a canonical text, read one by one, and what makes them a polynomial that is read.
-use Rattle.std.proofs.Common.{◌≡◌, ◌≢◌, ℕ, zero, suc, ◌+◌, ◌-◌, ◌<◌, ◌≤◌, ◌^◌, inl, inr, List, [], ◌∷◌, ◌++◌, take, length}
-use Rattle.std.proofs.Common.{flat_map, get_or, cond, codes, refl, sym, ◌∙◌, ap, ap₂, subst, arith, append_assoc, append-nil}
-use Rattle.std.proofs.Common.{ℤ, pos, ◌<ℤ◌, Bool, true, false}
-use Rattle.std.specs.Prelude.{sum_by, slice_index_or}
+use Rattle.std.proofs.Common.{◌≡◌, ◌≢◌, ℕ, suc, ◌+◌, ◌-◌, ◌<◌, ◌≤◌, ◌^◌, inl, inr, List, [], ◌∷◌, ◌++◌, take, length}
+use Rattle.std.proofs.Common.{flat_map, get_or, cond, codes, refl, sym, ◌∙◌, ap, subst, arith, append_assoc, append-nil}
+use Rattle.std.proofs.Common.{pos, ◌<ℤ◌, Bool, true, false}
+use Rattle.std.specs.Prelude.{slice_index_or}
 use Rattle.std.specs.List.{AllByRecursion}
-use Rattle.std.proofs.lemmas.Int.{ints}
 use Rattle.std.specs.Int.RustNames.{unsigned_abs}
 use Rattle.std.proofs.lemmas.Fmt.{decimal_digit}
 use Rattle.std.proofs.lemmas.List.Sums.{sum_by-cons, sum_by_more, sum_by_more_le}
 use Rattle.std.proofs.lemmas.List.Concat.{flat_map-cons}
 use Rattle.sp_defs.specs.Laurent.{Laurent, Term, IsLaurent, size, monomial}
 use Rattle.sp_defs.specs.Text.{is_negative, term_text, signed_term_text, polynomial_text}
-use Rattle.sp_defs.specs.Within.{PowersWithin}
 use Rattle.sp_lists.proofs.Elements.{all_right, all_both}
 use Rattle.sp_lists.proofs.Places.{all_weaken}
 use Rattle.sp_algebra.proofs.Canonical.{canonical-from}
-use Rattle.sp_algebra.proofs.Coefficients.{Above, Above-lower, Canonical, IsLaurent-canonical}
+use Rattle.sp_algebra.proofs.Coefficients.{Above-lower, Canonical, IsLaurent-canonical}
 use Rattle.sp_algebra.proofs.Places.{powers_ascend}
 use Rattle.sp_algebra.proofs.Steps.{put-nonzero}
 use Rattle.sp_laurent.specs.Held.{IsHeld, power_limit}

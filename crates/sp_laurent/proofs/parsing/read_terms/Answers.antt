@@ -1,11 +1,8 @@
-use Rattle.std.proofs.Common.{◌≡◌, ◌≢◌, ◌++◌, ℕ, List, [], sym, ◌∙◌, ap, subst, flat_map, length, rules, arith}
+use Rattle.std.proofs.Common.{◌≡◌, ◌≢◌, ◌++◌, [], ◌∙◌, ap, flat_map, length, rules, arith}
 use Rattle.std.proofs.lemmas.Bool.Decides.{nat_tests}
-use Rattle.std.specs.List.{AllByRecursion}
-use Rattle.sp_defs.specs.Laurent.{Laurent, monomial}
-use Rattle.sp_defs.specs.Text.{polynomial_text, signed_term_text}
-use Rattle.sp_laurent.specs.Readable.{IsReadable}
-use Rattle.sp_laurent.specs.Pieces.{IsGood}
-use Rattle.sp_laurent.proofs.Terms.{Left, Next, first_next, later_next, left_after, left_none}
+use Rattle.sp_defs.specs.Laurent.{monomial}
+use Rattle.sp_defs.specs.Text.{signed_term_text}
+use Rattle.sp_laurent.proofs.Terms.{first_next, later_next, left_after, left_none}
 use Rattle.sp_laurent.proofs.parsing.read_terms.Goals as goal
 
 pub returns-in_err-rest-clause-reads : goal.returns-in_err-rest-clause-reads

@@ -1,10 +1,6 @@
-use Rattle.std.proofs.Common.{◌≡◌, ◌++◌, ◌≤◌, ℕ, List, ℤ, pos, neg_ℤ, cond, int_lt, sym, ◌∙◌, ap, ap₂, arith}
+use Rattle.std.proofs.Common.{◌≡◌, pos, neg_ℤ, cond, ◌∙◌, ap₂, arith}
 use Rattle.std.proofs.lemmas.Int.{ints}
-use Rattle.std.specs.Int.RustNames.{unsigned_abs}
-use Rattle.std.specs.Fmt.{signed_decimal}
-use Rattle.sp_laurent.specs.Readable.{read_limit}
-use Rattle.sp_laurent.specs.Pieces.{IsPlain}
-use Rattle.sp_laurent.proofs.Reading.{Whole, whole_read, signed_is}
+use Rattle.sp_laurent.proofs.Reading.{whole_read, signed_is}
 use Rattle.sp_laurent.proofs.reader.read_exponent.Goals as goal
 
 pub returns-then-number-clause-reads : goal.returns-then-number-clause-reads
