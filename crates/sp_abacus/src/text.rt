@@ -8,8 +8,8 @@ use crate::beads::{beta, row_count};
 use sp_partition::Partition;
 use std::alloc::{AllocError, Global};
 
-/// Appends a line for each place from 0 to the greatest that has a bead, with `e` characters from runner 0 on: `o` for a
-/// bead and `.` for none. For the empty partition it is a line with a dash. An `Err` leaves `out` as it was.
+/// Appends a line for each place from 0 to the greatest that has a bead, with `e` characters from runner 0 on: `o` for
+/// a bead and `.` for none. For the empty partition it is a line with a dash. An `Err` leaves `out` as it was.
 pub fn abacus_text(
     _alloc: Global,
     e: u8,

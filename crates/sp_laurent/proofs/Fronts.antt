@@ -1,6 +1,7 @@
 -- What stands in front of a text: digits, and marks.
-use Rattle.std.proofs.Common.{◌≡◌, ℕ, zero, suc, ◌+◌, ◌-◌, ◌*◌, ◌^◌, ◌<◌, ◌≤◌, ◌⊎◌, inl, inr, true, false, min, List, []}
-use Rattle.std.proofs.Common.{nat_eq, cond, ◌∷◌, ◌++◌, take, drop, length, slice_index, Some, None, refl, ◌∙◌, ap, subst, arith}
+use Rattle.std.proofs.Common.{◌≡◌, ℕ, zero, suc, ◌+◌, ◌-◌, ◌*◌, ◌^◌, ◌<◌, ◌≤◌, ◌⊎◌, inl, inr, true, false, min, List}
+use Rattle.std.proofs.Common.{[], nat_eq, cond, ◌∷◌, ◌++◌, take, drop, length, slice_index, Some, None, refl, ◌∙◌}
+use Rattle.std.proofs.Common.{ap, subst, arith}
 use Rattle.std.specs.Char.{is_ascii_digit, digit_value}
 use Rattle.std.specs.Fmt.{decimal}
 use Rattle.std.specs.Str.Parse.{AllDigits, IsNumeral, digits_value}

@@ -1,6 +1,7 @@
 -- Terms in front of a text, as they are read.
 use Rattle.std.proofs.Common.{◌≡◌, ℕ, suc, ◌<◌, ◌^◌, ◌==◌, ◌⊎◌, inl, inr, Bool, true, false, cond}
-use Rattle.std.proofs.Common.{int_lt, neg_ℤ, List, [], ◌∷◌, ◌++◌, codes, length, Some, None, ℤ, pos, negsuc, refl, sym, ◌∙◌, ap}
+use Rattle.std.proofs.Common.{int_lt, neg_ℤ, List, [], ◌∷◌, ◌++◌, codes, length, Some, None, ℤ, pos, negsuc, refl}
+use Rattle.std.proofs.Common.{sym, ◌∙◌, ap}
 use Rattle.std.proofs.Common.{arith, append_assoc, length-append}
 use Rattle.std.specs.Int.RustNames.{unsigned_abs}
 use Rattle.std.specs.Ordering.{int_eq}
@@ -33,10 +34,11 @@ pub power_plain : (k : ℤ) (rest : List ℕ) → IsSigned rest → IsPlain (pow
 power_plain k rest h =
     elim (int_eq k (pos 0)) as (λ b. IsPlain (cond b [] (power_text k) ++ rest)) [
       | true ↦ sign_plain rest h
-      | false ↦ elim (int_eq k (pos 1)) as (λ b. IsPlain (cond b (codes "v") (codes "v^" ++ signed_decimal k) ++ rest)) [
-        | true ↦ refl
-        | false ↦ refl
-      ]
+      | false ↦ elim (int_eq k (pos 1)) as (λ b. IsPlain (cond b (codes "v") (codes "v^"
+          ++ signed_decimal k) ++ rest)) [
+            | true ↦ refl
+            | false ↦ refl
+          ]
     ]
 
 -- ---- coefficients
@@ -120,7 +122,8 @@ pub data SignText (t : Term) (rest text : List ℕ) : Type 0 where
 pub sign_cases : (t : Term) (rest text : List ℕ) → Begins t rest text → SignText t rest text
 sign_cases t rest text h = split h.is
   where
-    first : (b : Bool) → is_negative t ≡ b → text ≡ (cond b (codes "-") [] ++ term_text t) ++ rest → SignText t rest text
+    first : (b : Bool) → is_negative t ≡ b → text ≡ (cond b (codes "-") [] ++ term_text t) ++ rest →
+        SignText t rest text
     first true e is = minus e is
     first false e is = unmarked e is
 
@@ -193,7 +196,8 @@ pub factor_one : (k c : ℤ) (rest text behind : List ℕ) → unsigned_abs c < 
     behind_mark 118 text ≡ Some behind → (1 ≡ unsigned_abs c) × (text ≡ power_part k ++ rest)
 factor_one k c rest text behind small is some = by_term (term_cases k c rest text is)
   where
-    by_term : TermText (unsigned_abs c) k (power_part k) rest text → (1 ≡ unsigned_abs c) × (text ≡ power_part k ++ rest)
+    by_term : TermText (unsigned_abs c) k (power_part k) rest text →
+        (1 ≡ unsigned_abs c) × (text ≡ power_part k ++ rest)
     by_term (bare one part i) = (sym one, i)
     by_term (counted i) =
         absurd (some_none (sym some ∙ ap (behind_mark 118) i

@@ -1,6 +1,7 @@
 -- The pieces of a canonical text, as they are read from the front.
 use Rattle.std.specs.Prelude.{ℕ, ◌≡◌, ◌^◌, ◌<◌, ◌≤◌, ◌⊎◌, true, false, cond, nat_eq, List, [], ◌∷◌, ◌++◌, codes}
-use Rattle.std.specs.Prelude.{◌-◌, ◌≢◌, ◌<ℤ◌, length, slice_index, slice_index_or, Option, Some, None, ℤ, pos, unsigned_abs}
+use Rattle.std.specs.Prelude.{◌-◌, ◌≢◌, ◌<ℤ◌, length, slice_index, slice_index_or, Option, Some, None, ℤ, pos}
+use Rattle.std.specs.Prelude.{unsigned_abs}
 use Rattle.std.specs.Ordering.{int_eq}
 use Rattle.std.specs.Char.{is_ascii_digit}
 use Rattle.sp_defs.specs.Laurent.{Laurent, Term}
@@ -38,7 +39,9 @@ first_term_text t = cond (is_negative t) (codes "-") [] ++ term_text t
 
 -- The powers ascend.
 abbrev pub Ascends : Laurent → Type 0
-Ascends p = (i : ℕ) → 1 ≤ i → i < length p → (slice_index_or p (i - 1) (pos 0, pos 0)).0 <ℤ (slice_index_or p i (pos 0, pos 0)).0
+Ascends p =
+    (i : ℕ) → 1 ≤ i → i < length p →
+    (slice_index_or p (i - 1) (pos 0, pos 0)).0 <ℤ (slice_index_or p i (pos 0, pos 0)).0
 
 -- A term of a polynomial, of a power that is read.
 abbrev pub IsGood : Term → Type 0

@@ -1,6 +1,7 @@
 //! Polynomials read from their canonical texts: the terms are read from left to right, and the text that they have is
 //! compared with what was read.
-ghost use Rattle.std.specs.Prelude.{◌≡◌, ◌↔◌, ℕ, ◌^◌, ◌<◌, ◌++◌, List, length, IfOk, OnOk, IsTrue, IsErrOf, MatchResult};
+ghost use Rattle.std.specs.Prelude.{◌≡◌, ◌↔◌, ℕ, ◌^◌, ◌<◌, ◌++◌, List, length, IfOk, OnOk};
+ghost use Rattle.std.specs.Prelude.{IsTrue, IsErrOf, MatchResult};
 ghost use Rattle.std.specs.List.{AllByRecursion};
 ghost use Rattle.sp_defs.specs.Laurent.{Laurent as Polynomial, Term, size, monomial};
 ghost use Rattle.sp_defs.specs.Text.{polynomial_text};

@@ -1,7 +1,7 @@
 //! Terms read from the front of a text. What stands in front of a canonical text is read as the term that it shows.
 //! Other texts are read as some term or as none.
-ghost use Rattle.std.specs.Prelude.{◌≡◌, ℕ, ℤ, ◌^◌, ◌<◌, ◌≤◌, ◌++◌, List, cond, codes, length, true, false, None, pos, neg_ℤ};
-ghost use Rattle.std.specs.Prelude.{unsigned_abs};
+ghost use Rattle.std.specs.Prelude.{◌≡◌, ℕ, ℤ, ◌^◌, ◌<◌, ◌≤◌, ◌++◌, List, cond, codes, length, true, false, None, pos};
+ghost use Rattle.std.specs.Prelude.{neg_ℤ, unsigned_abs};
 ghost use Rattle.std.specs.Prelude.{IfOk, IfSome, IsSomeAnd};
 ghost use Rattle.std.specs.Option.{option_copied};
 ghost use Rattle.std.specs.Str.Parse.{AllDigits, digits_value};

@@ -8,7 +8,8 @@ use Rattle.sp_abacus.proofs.text.put_places.Goals as goal
 pub put_place-requires : goal.put_place-requires
 put_place-requires c =
     let e = c.args.e in
-    let numbers : c.as_slice.result.now ≡ beta e c.args.p.now = c.as_slice.ensures.value ∙ c.beta-numbers.ensures.numbers in
+    let numbers : c.as_slice.result.now ≡ beta e c.args.p.now =
+    c.as_slice.ensures.value ∙ c.beta-numbers.ensures.numbers in
     let few : length (beta e c.args.p.now) ≤ 64 = subst (λ bs. length bs ≤ 64) numbers c.as_slice.ensures.fits in
     let last : c.places-place-end.result ≡ places e (beta e c.args.p.now) =
     c.places-place-end.ensures ∙ ap (places e) numbers in
