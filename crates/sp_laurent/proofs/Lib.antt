@@ -8,3 +8,6 @@ pub mod Mirroring
 pub mod Lower
 pub mod Symmetry
 pub mod Slopes
+pub mod Fronts
+pub mod Reading
+pub mod Terms

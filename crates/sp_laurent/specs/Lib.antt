@@ -1,2 +1,4 @@
 pub mod Held
 pub mod Grown
+pub mod Readable
+pub mod Pieces

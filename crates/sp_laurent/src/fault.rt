@@ -22,3 +22,23 @@ impl From<AllocError> for LaurentFault {
         LaurentFault::Memory
     }
 }
+
+/// Why a text was not read as a polynomial.
+#[derive(Clone, Copy, Debug, PartialEq, Eq, Error)]
+pub enum ParseFault {
+    /// It isn't the canonical text of a polynomial within the limits.
+    #[error("not a Laurent polynomial")]
+    NotLaurent,
+    #[error("out of memory")]
+    Memory,
+}
+
+impl From<AllocError> for ParseFault {
+    ghost use Rattle.sp_laurent.specs.declared.fault.ParseFault.TheVariants.{Memory as ParseMemory};
+
+    ghost from_gives = { λ _ fault. fault ≡ ParseMemory };
+
+    fn from(_error: AllocError) -> ParseFault {
+        ParseFault::Memory
+    }
+}

@@ -17,16 +17,21 @@ use std::marker::Model;
 
 mod fault;
 mod mirror;
+mod parsing;
+mod reader;
 mod sums;
 mod text;
 mod values;
 
-pub use fault::LaurentFault;
+pub use fault::{LaurentFault, ParseFault};
 pub use text::print_term;
 pub use values::TooLarge;
 
 /// Powers are at most this far from 0.
 pub const POWER_LIMIT: i32 = 1_000_000_000;
+
+/// Powers that are read from a text are at most this far from 0.
+pub const READ_LIMIT: i32 = 10_000_000;
 
 /// A power of v, and its coefficient.
 type Term = (i32, i128);

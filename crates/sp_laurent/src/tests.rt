@@ -102,3 +102,73 @@ fn mirrors_and_slopes(rt: HostRuntime) -> Result<(), Fail> {
     assert_eq!(rt; Laurent::monomial(alloc, -3, 2)?.slope_at_one(6), Ok(-6));
     Ok(())
 }
+
+#[test]
+fn parses(rt: HostRuntime) -> Result<(), Fail> {
+    let alloc = rt.alloc();
+    let rows: [(&[u8], &[Term]); 9] = [
+        (b"v^-1+2+v", &[(-1, 1), (0, 2), (1, 1)]),
+        (b"-3v^2", &[(2, -3)]),
+        (b"1-v", &[(0, 1), (1, -1)]),
+        (b"0", &[]),
+        (b"-1", &[(0, -1)]),
+        (
+            b"-v^-10000000+12v^10000000",
+            &[(-10_000_000, -1), (10_000_000, 12)],
+        ),
+        (
+            b"170141183460469231731687303715884105727",
+            &[(0, i128::MAX)],
+        ),
+        (
+            b"-170141183460469231731687303715884105727v",
+            &[(1, -i128::MAX)],
+        ),
+        (
+            b"1+170141183460469231731687303715884105726v",
+            &[(0, 1), (1, i128::MAX - 1)],
+        ),
+    ];
+    for (text, terms) in rows {
+        match Laurent::parse(alloc, text) {
+            Ok(p) => assert_eq!(rt; p.terms(), terms),
+            Err(_) => assert!(rt; false),
+        }
+    }
+    Ok(())
+}
+
+#[test]
+fn refuses_other_texts(rt: HostRuntime) -> Result<(), Fail> {
+    let texts: [&[u8]; 24] = [
+        b"",
+        b"+1",
+        b"1v",
+        b"v^1",
+        b"v^0",
+        b"v^-0",
+        b"2v^02",
+        b"-0",
+        b"0v",
+        b"0+v",
+        b"01",
+        b"v+1",
+        b"v+v",
+        b"1+v-",
+        b"v^",
+        b"v^+2",
+        b"1 + v",
+        b"1+v\n",
+        b"v^10000001",
+        b"v^-10000001",
+        b"v^99999999999999999999999999999999999999999999",
+        b"170141183460469231731687303715884105728",
+        b"1+170141183460469231731687303715884105727v",
+        b"680564733841876926926749214863536422912",
+    ];
+    for text in texts {
+        let parsed = Laurent::parse(rt.alloc(), text);
+        assert!(rt; matches!(parsed, Err(ParseFault::NotLaurent)));
+    }
+    Ok(())
+}
