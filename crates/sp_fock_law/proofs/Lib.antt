@@ -4,3 +4,4 @@ pub mod Places
 pub mod Single
 pub mod Steps
 pub mod JoinedAll
+pub mod Totals
