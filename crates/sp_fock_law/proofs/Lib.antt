@@ -5,3 +5,4 @@ pub mod Single
 pub mod Steps
 pub mod JoinedAll
 pub mod Totals
+pub mod Tally
