@@ -4,7 +4,6 @@ ghost use Rattle.std.specs.List.{AllByRecursion};
 ghost use Rattle.sp_defs.specs.Within.{ProductWithin};
 ghost use Rattle.sp_fock_law.specs.Tally.{IsTally, subtracted, subtraction_weight, tally_of, total_of};
 ghost use Rattle.sp_laurent.specs.Held.{power_limit};
-ghost use Rattle.sp_fock.specs.Held.{IsHeld};
 
 use crate::totals::{grown_totals, sizes_of, totals_fit};
 use crate::{FockFault, Vector};
@@ -99,7 +98,6 @@ impl Tally {
     /// The vector.
     pub fn vector(&self) -> &Vector
         ensures value { result.now ≡ self.now.vector }
-        ensures held { IsHeld self.now.vector }
         ensures tally { IsTally self.now }
     {
         &self.vector
