@@ -2,11 +2,12 @@
 #![tactic(auto)]
 
 mod command;
-mod number;
-mod read;
-#[cfg(test)]
-mod tests;
-mod word;
+mod fault;
+mod verb;
+mod words;
 
 pub use command::Command;
-pub use read::read_command;
+pub use fault::LineFault;
+
+/// The greatest number of bytes of a line.
+pub const LINE_LIMIT: usize = 4096;
