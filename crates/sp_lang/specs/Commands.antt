@@ -71,34 +71,33 @@ partition word = unwrap_or (partition_of word) []
 abbrev pub word_at : List (List ℕ) → ℕ → List ℕ
 word_at words k = slice_index_or words k []
 
+abbrev pub partitions : List ℕ → List (List ℕ)
+partitions word = map partition (pieces word)
+
+-- The command, by what its words say at each place.
+abbrev pub command_with : (ℕ → ℕ) → (ℕ → List ℕ) → (ℕ → List (List ℕ)) → Verb → Command
+command_with number_at partition_at partitions_at Partitions = command.Partitions (number_at 0)
+command_with number_at partition_at partitions_at Regular = command.Regular (number_at 0) (number_at 1)
+command_with number_at partition_at partitions_at Conjugate = command.Conjugate (partition_at 0)
+command_with number_at partition_at partitions_at Dominates = command.Dominates (partition_at 0) (partition_at 1)
+command_with number_at partition_at partitions_at Diagram = command.Diagram (number_at 0) (partition_at 1)
+command_with number_at partition_at partitions_at Hooks = command.Hooks (partition_at 0)
+command_with number_at partition_at partitions_at Content = command.Content (number_at 0) (partition_at 1)
+command_with number_at partition_at partitions_at Core = command.Core (number_at 0) (partition_at 1)
+command_with number_at partition_at partitions_at Combine =
+    command.Combine (number_at 0) (partition_at 1) (partitions_at 2)
+command_with number_at partition_at partitions_at Abacus = command.Abacus (number_at 0) (partition_at 1)
+command_with number_at partition_at partitions_at Good = command.Good (number_at 0) (partition_at 1)
+command_with number_at partition_at partitions_at Path = command.Path (number_at 0) (partition_at 1)
+command_with number_at partition_at partitions_at Mullineux = command.Mullineux (number_at 0) (partition_at 1)
+command_with number_at partition_at partitions_at Induce =
+    command.Induce (number_at 0) (number_at 1) (number_at 2) (partition_at 3)
+command_with number_at partition_at partitions_at Ladders = command.Ladders (number_at 0) (partition_at 1)
+command_with number_at partition_at partitions_at Ladder = command.Ladder (number_at 0) (partition_at 1)
+command_with number_at partition_at partitions_at Row = command.Row (number_at 0) (partition_at 1)
+
 -- What the words behind the first one say.
 unfoldable pub command_of : Verb → List (List ℕ) → Command
-command_of verb words = of_verb verb
-  where
-    number_at : ℕ → ℕ
-    number_at k = number (word_at words k)
-
-    partition_at : ℕ → List ℕ
-    partition_at k = partition (word_at words k)
-
-    partitions_at : ℕ → List (List ℕ)
-    partitions_at k = map partition (pieces (word_at words k))
-
-    of_verb : Verb → Command
-    of_verb Partitions = command.Partitions (number_at 0)
-    of_verb Regular = command.Regular (number_at 0) (number_at 1)
-    of_verb Conjugate = command.Conjugate (partition_at 0)
-    of_verb Dominates = command.Dominates (partition_at 0) (partition_at 1)
-    of_verb Diagram = command.Diagram (number_at 0) (partition_at 1)
-    of_verb Hooks = command.Hooks (partition_at 0)
-    of_verb Content = command.Content (number_at 0) (partition_at 1)
-    of_verb Core = command.Core (number_at 0) (partition_at 1)
-    of_verb Combine = command.Combine (number_at 0) (partition_at 1) (partitions_at 2)
-    of_verb Abacus = command.Abacus (number_at 0) (partition_at 1)
-    of_verb Good = command.Good (number_at 0) (partition_at 1)
-    of_verb Path = command.Path (number_at 0) (partition_at 1)
-    of_verb Mullineux = command.Mullineux (number_at 0) (partition_at 1)
-    of_verb Induce = command.Induce (number_at 0) (number_at 1) (number_at 2) (partition_at 3)
-    of_verb Ladders = command.Ladders (number_at 0) (partition_at 1)
-    of_verb Ladder = command.Ladder (number_at 0) (partition_at 1)
-    of_verb Row = command.Row (number_at 0) (partition_at 1)
+command_of verb words =
+    command_with (λ k. number (word_at words k)) (λ k. partition (word_at words k)) (λ k. partitions (word_at words k))
+    verb
