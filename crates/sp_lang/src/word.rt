@@ -1,9 +1,12 @@
 // What a word says.
-ghost use Rattle.std.specs.Prelude.{◌≡◌, ◌==◌, ◌≤◌, length, min, not, IfOk, is_none};
-ghost use Rattle.std.specs.List.{list_any};
+ghost use Rattle.std.specs.Prelude.{◌≡◌, ◌==◌, ◌≤◌, length, min, not, IfOk, IsTrue, is_none};
+ghost use Rattle.std.specs.List.{list_any, list_all};
 ghost use Rattle.std.specs.Option.{option_map};
 ghost use Rattle.sp_defs.specs.Partition.{degree};
-ghost use Rattle.sp_partition.specs.Reading.{number_of, partition_of};
+ghost use Rattle.sp_partition.specs.Reading.{number_of, is_number as number_word, partition_of, parsed};
+ghost use Rattle.sp_partition.specs.Held.{IsHeld};
+ghost use Rattle.std.specs.Str.Parse.{digits_value};
+ghost use Rattle.std.specs.Char.{is_digit};
 ghost use Rattle.sp_lang.specs.Words.{pieces};
 ghost use Rattle.sp_lang.specs.Faults.{is_past as past, says};
 ghost use Rattle.sp_lang.specs.Tests.{byte as byte_of, fitting as fitting_of, all_fitting as all_fitting_of};
@@ -16,24 +19,47 @@ use std::alloc::{AllocError, Global};
 pub(crate) fn number(word: &[u8]) -> Option<u8>
     ensures { result ≡ option_map (λ n. min n 255) (number_of word.now) }
 {
-    if !is_number(word) {
-        return None;
+    if is_number(word) {
+        Some(value(word))
+    } else {
+        None
     }
-    let mut value = 0u8;
-    for digit in word {
-        value = value.saturating_mul(10).saturating_add(*digit - b'0');
-    }
-    Some(value)
 }
 
-// Whether these are digits, with no zero in front of others.
-fn is_number(word: &[u8]) -> bool {
+// Whether these are digits, of which the first is 0 only where it is the one digit.
+fn is_number(word: &[u8]) -> bool
+    ensures { result ≡ number_word word.now }
+{
     match word {
         [] => false,
-        [b'0'] => true,
-        [b'0', ..] => false,
-        _ => word.iter().all(|byte| byte.is_ascii_digit()),
+        [first, rest @ ..] => are_digits(word) && (rest.is_empty() || *first != b'0'),
     }
+}
+
+fn are_digits(word: &[u8]) -> bool
+    ensures { result ≡ list_all (λ c. is_digit c 10) word.now }
+{
+    word.iter().all(|byte| byte.is_ascii_digit())
+}
+
+// What the digits count, or 255 where that is greater.
+fn value(digits: &[u8]) -> u8
+    requires { IsTrue (number_word digits.now) }
+    ensures { result ≡ min (digits_value 10 digits.now) 255 }
+{
+    let mut value = 0u8;
+    for digit in digits {
+        value = value.saturating_mul(10).saturating_add(*digit - b'0');
+    }
+    value
+}
+
+// What the word is read as. A partition that was read is one that fits.
+fn parse(word: &[u8]) -> Result<Partition, NotPartition>
+    ensures reads { result ≡ parsed (partition_of word.now) }
+    ensures held { IfOk result IsHeld }
+{
+    Partition::parse(word)
 }
 
 /// The number that a word says, or 255 where it is greater, or 0 where the word says none.
@@ -47,21 +73,21 @@ pub(crate) fn byte(word: &[u8]) -> u8
 pub(crate) fn is_no_partition(word: &[u8]) -> bool
     ensures { result ≡ is_none (partition_of word.now) }
 {
-    matches!(Partition::parse(word), Err(NotPartition::Shape))
+    matches!(parse(word), Err(NotPartition::Shape))
 }
 
 /// The partition that a word says, or the empty one where there is none that fits.
 pub(crate) fn fitting(word: &[u8]) -> Partition
     ensures { result ≡ fitting_of word.now }
 {
-    Partition::parse(word).unwrap_or_default()
+    parse(word).unwrap_or_default()
 }
 
 /// Whether the word says a partition that, with so many nodes more, is past the limit.
 pub(crate) fn is_past(more: u8, word: &[u8]) -> bool
     ensures { result ≡ past more word.now }
 {
-    match Partition::parse(word) {
+    match parse(word) {
         Ok(p) => u16::from(p.degree()) + u16::from(more) > u16::from(DEGREE_LIMIT),
         Err(NotPartition::PastCapacity) => true,
         Err(NotPartition::Shape) => false,
@@ -72,7 +98,7 @@ pub(crate) fn is_past(more: u8, word: &[u8]) -> bool
 pub(crate) fn is_uneven(p: &Partition, word: &[u8]) -> bool
     ensures { result ≡ says (λ q. not (degree q == degree p.now)) (partition_of word.now) }
 {
-    match Partition::parse(word) {
+    match parse(word) {
         Ok(q) => q.degree() != p.degree(),
         Err(NotPartition::PastCapacity) => true,
         Err(NotPartition::Shape) => false,
@@ -84,7 +110,7 @@ pub(crate) fn is_irregular(e: u8, word: &[u8]) -> bool
     requires { 2 ≤ e }
     ensures { result ≡ is_fitting_irregular e word.now }
 {
-    match Partition::parse(word) {
+    match parse(word) {
         Ok(p) => !p.is_regular(e),
         Err(_) => false,
     }
