@@ -98,8 +98,9 @@ pub(crate) fn is_past(more: u8, word: &[u8]) -> bool
 pub(crate) fn is_uneven(p: &Partition, word: &[u8]) -> bool
     ensures { result ≡ says (λ q. not (degree q == degree p.now)) (partition_of word.now) }
 {
+    let degree = p.degree();
     match parse(word) {
-        Ok(q) => q.degree() != p.degree(),
+        Ok(q) => q.degree() != degree,
         Err(NotPartition::PastCapacity) => true,
         Err(NotPartition::Shape) => false,
     }
