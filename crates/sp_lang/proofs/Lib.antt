@@ -4,3 +4,4 @@ pub mod Faultless
 pub mod Right
 pub mod Fields
 pub mod Order
+pub mod Answered
