@@ -1,7 +1,7 @@
 -- What a line says, and what holds of it.
-use Rattle.std.proofs.Common.{◌≡◌, ◌≢◌, ℕ, Bool, true, false, cond, not, List, [], ◌∷◌, length, refl, sym, ◌∙◌, ap}
+use Rattle.std.proofs.Common.{◌≡◌, ◌≢◌, ℕ, ◌<◌, ◌≤◌, Bool, true, false, cond, not, List, [], ◌∷◌, length, refl, sym, ◌∙◌, ap}
 use Rattle.std.proofs.Common.{subst, eqb, nat_lt}
-use Rattle.std.proofs.lemmas.Bool.{cond_both}
+use Rattle.std.proofs.lemmas.Bool.{cond_both, cond-true, cond-false, lt-ltb, le-ltb}
 use Rattle.std.proofs.lemmas.Option.{none-some, same_Some}
 use Rattle.std.specs.Prelude.{Option, Some, None, Result, Ok, Err, IfOk, codes, find}
 use Rattle.std.specs.List.{AllByRecursion, list_all, starts_with}
@@ -75,18 +75,34 @@ said_command (first ∷ rest) =
     cond_both (starts_with eqb first (codes "#")) (Ok Nothing) (said_behind (verb_of first) rest)
     (λ (r : Result Command LineFault). IfOk r IsCommand) (λ e. tt) (λ e. behind (verb_of first) rest)
 
-reading_command : (line : List ℕ) → IfOk (reading line) IsCommand
-unfolding reading
-reading_command line =
-    cond_both (nat_lt LINE_LIMIT (length line)) (Err LongLine)
-    (cond (not (list_all is_allowed line)) (Err BadByte) (said (words line)))
-    (λ (r : Result Command LineFault). IfOk r IsCommand) (λ e. tt)
-    (λ e. cond_both (not (list_all is_allowed line)) (Err BadByte) (said (words line))
-    (λ (r : Result Command LineFault). IfOk r IsCommand) (λ e. tt) (λ e. said_command (words line)))
+-- ---- the length and the bytes
 
-pub read_command : (line : List ℕ) (r : Result Command LineFault) → (r ≢ Err Memory → r ≡ reading line) →
+pub long_line : (line : List ℕ) → LINE_LIMIT < length line → Err LongLine ≡ reading line
+unfolding reading
+long_line line long =
+    sym (cond-true (nat_lt LINE_LIMIT (length line)) _ _ (lt-ltb LINE_LIMIT (length line) long))
+
+short_line : (line : List ℕ) → length line ≤ LINE_LIMIT →
+    reading line ≡ cond (not (list_all is_allowed line)) (Err BadByte) (said (words line))
+unfolding reading
+short_line line short =
+    cond-false (nat_lt LINE_LIMIT (length line)) _ _ (le-ltb LINE_LIMIT (length line) short)
+
+pub bad_byte : (line : List ℕ) → length line ≤ LINE_LIMIT → list_all is_allowed line ≡ false →
+    Err BadByte ≡ reading line
+bad_byte line short other =
+    sym (short_line line short ∙ cond-true (not (list_all is_allowed line)) _ _ (ap not other))
+
+pub plain_line : (line : List ℕ) → length line ≤ LINE_LIMIT → list_all is_allowed line ≡ true →
+    said (words line) ≡ reading line
+plain_line line short all =
+    sym (short_line line short ∙ cond-false (not (list_all is_allowed line)) _ _ (ap not all))
+
+-- ---- what was read
+
+pub read_command : (line : List ℕ) (r : Result Command LineFault) → (r ≢ Err Memory → r ≡ said (words line)) →
     IfOk r IsCommand
 read_command line (Err fault) reads = tt
 read_command line (Ok command) reads =
-    let is : Ok command ≡ reading line = reads (λ e. cc) in
-    subst (λ (r : Result Command LineFault). IfOk r IsCommand) (sym is) (reading_command line)
+    let is : Ok command ≡ said (words line) = reads (λ e. cc) in
+    subst (λ (r : Result Command LineFault). IfOk r IsCommand) (sym is) (said_command (words line))

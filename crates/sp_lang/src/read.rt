@@ -1,5 +1,6 @@
 // A line as a command.
 ghost use Rattle.std.specs.Prelude.{◌≡◌, ◌≢◌, IfOk, OnErr, find};
+ghost use Rattle.std.specs.List.{list_all};
 ghost use Rattle.sp_lang.specs.Words.{words, is_allowed as allowed};
 ghost use Rattle.sp_lang.specs.Commands.{verb_of as verb_named, places_of};
 ghost use Rattle.sp_lang.specs.Faults.{any_word, first_fault as first_fault_of};
@@ -28,10 +29,16 @@ pub fn read_command(alloc: Global, line: &[u8]) -> Result<Command, LineFault>
     if line.len() > LINE_LIMIT {
         return Err(LineFault::LongLine);
     }
-    if !line.iter().all(|byte| is_allowed(*byte)) {
+    if !are_allowed(line) {
         return Err(LineFault::BadByte);
     }
     said(alloc, line)
+}
+
+fn are_allowed(line: &[u8]) -> bool
+    ensures { result ≡ list_all allowed line.now }
+{
+    line.iter().all(|byte| is_allowed(*byte))
 }
 
 fn is_allowed(byte: u8) -> bool
