@@ -1,4 +1,7 @@
 pub mod Splitting
-pub mod Numbers
-pub mod Named
-pub mod Lines
+pub mod Digits
+pub mod Faultless
+pub mod Right
+pub mod Fields
+pub mod Order
+pub mod Answered
