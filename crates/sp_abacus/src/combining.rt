@@ -6,7 +6,7 @@ ghost use Rattle.sp_defs.specs.Partition.{degree as degree_of, IsPartition};
 ghost use Rattle.sp_defs.specs.Abacus.{core as core_of, quotient as quotient_of, shown as shown_of};
 ghost use Rattle.sp_partition.specs.Held.{IsHeld};
 ghost use Rattle.sp_abacus_law.specs.Beads.{numbers as numbers_of, Falls};
-ghost use Rattle.sp_abacus_law.specs.Combined.{combined, combined_beads, member};
+ghost use Rattle.sp_abacus_law.specs.Combined.{combined_beads, member};
 
 use crate::beads::{NUMBERS_END, bead_count, heights, numbers, row_count};
 use crate::parts::{core, shown};
@@ -28,8 +28,7 @@ pub enum CombineFault {
 pub fn combine(e: u8, kappa: &Partition, quotient: &[Partition]) -> Result<Partition, CombineFault>
     requires e_least { 2 ≤ e }
     requires e_most { e ≤ 64 }
-    ensures ok { IfOk result (λ p. p ≡ combined e kappa.now quotient.now) }
-    // it has just this core and this quotient
+    // what it answers has just this core and this quotient
     ensures has { IfOk result (λ p. (core_of e p ≡ kappa.now) × (quotient_of e p ≡ quotient.now)) }
     // and a partition that has them, of a degree within the limit, is the answer
     ensures given_back { (lambda : List ℕ) → IsPartition lambda → degree_of lambda ≤ DEGREE_LIMIT →

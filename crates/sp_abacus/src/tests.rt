@@ -1,4 +1,4 @@
-use crate::{CombineFault, beta, combine, core, quotient, weight};
+use crate::{CombineFault, abacus_text, beta, combine, core, quotient, weight};
 use sp_partition::Partition;
 use std::test::Fail;
 
@@ -42,5 +42,23 @@ fn cores_with_quotients(rt: HostRuntime) -> Result<(), Fail> {
         combine(3, &one, &[seven, empty, empty]),
         Err(CombineFault::PastDegree)
     );
+    Ok(())
+}
+
+#[test]
+fn texts_of_abaci(rt: HostRuntime) -> Result<(), Fail> {
+    let rows: [(u8, &[u8], &[u8]); 4] = [
+        (3, &[4], b"oo.\n...\no..\n"),
+        (3, &[3, 3, 1], b".o.\n.oo\n"),
+        (4, &[5, 2, 2, 1, 1], b"ooo.\noo.o\no...\no...\n"),
+        (2, &[], b"-\n"),
+    ];
+    for (e, parts, text) in rows {
+        let p = Partition::from_parts(parts).unwrap_or_default();
+        let mut out = Vec::from_slice(rt.alloc(), b"> ")?;
+        abacus_text(rt.alloc(), e, &p, &mut out)?;
+        assert_eq!(rt; &out[..2], b"> ".as_slice());
+        assert_eq!(rt; &out[2..], text);
+    }
     Ok(())
 }
