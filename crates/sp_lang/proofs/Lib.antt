@@ -1,4 +1,1 @@
 pub mod Splitting
-pub mod Numbers
-pub mod Named
-pub mod Lines

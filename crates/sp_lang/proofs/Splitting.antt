@@ -1,80 +1,130 @@
--- The words of a text by the place of its first space.
-use Rattle.std.proofs.Common.{◌≡◌, ℕ, suc, ◌+◌, ◌-◌, ◌<◌, ◌≤◌, ◌⊎◌, inl, inr, eqb, cond, not, Bool, true, false, List}
-use Rattle.std.proofs.Common.{[], ◌∷◌}
-use Rattle.std.proofs.Common.{take, drop, length, refl, sym, ◌∙◌, ap, ap₂, subst, arith, lt-ltb, le-ltb}
-use Rattle.std.proofs.Common.{length-drop}
-use Rattle.std.proofs.lemmas.List.{take_all}
-use Rattle.std.specs.List.{prefix_len, position}
-use Rattle.std.specs.Prelude.{Some, None, MatchOption}
-use Rattle.sp_lang.specs.Words.{words, onto_first}
+-- The words of a text, one after the other.
+use Rattle.std.proofs.Common.{◌≡◌, ℕ, suc, ◌+◌, ◌<◌, ◌≤◌, cond, not, Bool, true, false, List, [], ◌∷◌, take, drop}
+use Rattle.std.proofs.Common.{length, refl, sym, ◌∙◌, ap, subst, arith, eqb, filter}
+use Rattle.std.proofs.Common.{nat_lt}
+use Rattle.std.proofs.lemmas.Bool.{ltb-false}
+use Rattle.std.specs.Prelude.{Some, None, unwrap_or}
+use Rattle.std.specs.List.{prefix_len, position, position_or_len, slice_split, onto_first}
+use Rattle.sp_lang.specs.Words.{is_blank, is_word, words}
 
--- How many bytes stand before the first space.
-abbrev pub before_space : List ℕ → ℕ
-before_space text = prefix_len (λ b. not (eqb b 32)) text
+-- The pieces of a text: what stands before the first blank, and others that hold the words behind it.
+record Splits (text : List ℕ) (k : ℕ) : Type 0 where
+  pub others : List (List ℕ)
+  pub split : slice_split is_blank text ≡ take k text ∷ others
+  pub behind : filter is_word others ≡ words (drop k text)
 
--- The first space stands at k.
-abbrev pub SplitsAt : List ℕ → ℕ → Type 0
-SplitsAt text k = (k < length text) × (words text ≡ take k text ∷ words (drop (k + 1) text))
-
--- Or there is none.
-abbrev pub IsWord : List ℕ → ℕ → Type 0
-IsWord text k = (length text ≤ k) × (words text ≡ text ∷ [])
-
-no_space : (b : ℕ) (bs : List ℕ) (k : ℕ) → words (b ∷ bs) ≡ onto_first b (words bs) → SplitsAt bs k ⊎ IsWord bs k →
-    SplitsAt (b ∷ bs) (1 + k) ⊎ IsWord (b ∷ bs) (1 + k)
-no_space b bs k is (inl split) =
-    let one_more : 1 + k ≡ suc k = omega arith in
-    let after : 1 + k + 1 ≡ suc (k + 1) = omega arith in
-    inl (
-      omega (arith, split.0),
-      is ∙ ap (onto_first b) split.1
-          ∙ ap₂ (λ m n. take m (b ∷ bs) ∷ words (drop n (b ∷ bs))) (sym one_more) (sym after),
-    )
-no_space b bs k is (inr whole) = inr (omega (arith, whole.0), is ∙ ap (onto_first b) whole.1)
-
-pub words_cases : (text : List ℕ) → SplitsAt text (before_space text) ⊎ IsWord text (before_space text)
+splits : (text : List ℕ) → Splits text (position_or_len is_blank text)
 unfolding words
-words_cases [] = inr (omega arith, refl)
-words_cases (b ∷ bs) = by_byte (eqb b 32) refl (words_cases bs)
+splits [] = record { others = []; split = refl; behind = refl }
+splits (b ∷ bs) = by_byte (is_blank b) refl (splits bs)
   where
-    by_byte : (t : Bool) → eqb b 32 ≡ t → SplitsAt bs (before_space bs) ⊎ IsWord bs (before_space bs) →
-        SplitsAt (b ∷ bs) (before_space (b ∷ bs)) ⊎ IsWord (b ∷ bs) (before_space (b ∷ bs))
+    by_byte : (t : Bool) → is_blank b ≡ t → Splits bs (position_or_len is_blank bs) →
+        Splits (b ∷ bs) (position_or_len is_blank (b ∷ bs))
     by_byte true is rest =
-        let none : before_space (b ∷ bs) ≡ 0 = ap (λ t. cond (not t) (1 + before_space bs) 0) is in
-        let split : words (b ∷ bs) ≡ [] ∷ words bs = ap (λ t. cond t ([] ∷ words bs) (onto_first b (words bs))) is in
-        subst (λ k. SplitsAt (b ∷ bs) k ⊎ IsWord (b ∷ bs) k) (sym none) (inl (omega arith, split))
+        let none : position_or_len is_blank (b ∷ bs) ≡ 0 =
+        ap (λ t. cond (not t) (1 + position_or_len is_blank bs) 0) is in
+        let whole : slice_split is_blank (b ∷ bs) ≡ [] ∷ slice_split is_blank bs =
+        ap (λ t. cond t ([] ∷ slice_split is_blank bs) (onto_first b (slice_split is_blank bs))) is in
+        subst (Splits (b ∷ bs)) (sym none) (record {
+          others = slice_split is_blank bs;
+          split = whole;
+          behind = sym (ap (filter is_word) whole);
+        })
     by_byte false is rest =
-        let more : before_space (b ∷ bs) ≡ 1 + before_space bs = ap (λ t. cond (not t) (1 + before_space bs) 0) is in
-        let kept : words (b ∷ bs) ≡ onto_first b (words bs) =
-        ap (λ t. cond t ([] ∷ words bs) (onto_first b (words bs))) is in
-        subst (λ k. SplitsAt (b ∷ bs) k ⊎ IsWord (b ∷ bs) k) (sym more) (no_space b bs (before_space bs) kept rest)
+        let k = position_or_len is_blank bs in
+        let more : position_or_len is_blank (b ∷ bs) ≡ suc k =
+        ap (λ t. cond (not t) (1 + k) 0) is ∙ one_more k in
+        let whole : slice_split is_blank (b ∷ bs) ≡ onto_first b (slice_split is_blank bs) =
+        ap (λ t. cond t ([] ∷ slice_split is_blank bs) (onto_first b (slice_split is_blank bs))) is in
+        subst (Splits (b ∷ bs)) (sym more) (record {
+          others = rest.others;
+          split = whole ∙ ap (onto_first b) rest.split;
+          behind = rest.behind;
+        })
+      where
+        one_more : (k : ℕ) → 1 + k ≡ suc k
+        one_more k = omega arith
 
--- What `position` finds is the first space.
-pub words_split : (text : List ℕ) →
-    MatchOption (position (λ b. eqb b 32) text) (words text ≡ text ∷ []) (λ k. SplitsAt text k)
-words_split text = by_case (words_cases text)
+-- A blank in front is no part of a word.
+words-blank : (b : ℕ) (bs : List ℕ) → is_blank b ≡ true → words (b ∷ bs) ≡ words bs
+unfolding words
+words-blank b bs is =
+    ap (λ t. filter is_word (cond t ([] ∷ slice_split is_blank bs) (onto_first b (slice_split is_blank bs)))) is
+
+-- A text that begins with no blank begins with its first word.
+words-front : (b : ℕ) (bs : List ℕ) → is_blank b ≡ false →
+    words (b ∷ bs) ≡ (let k = position_or_len is_blank (b ∷ bs) in take k (b ∷ bs) ∷ words (drop k (b ∷ bs)))
+unfolding words
+words-front b bs is =
+    let k = position_or_len is_blank bs in
+    let more : position_or_len is_blank (b ∷ bs) ≡ suc k = ap (λ t. cond (not t) (1 + k) 0) is ∙ one_more k in
+    let s = splits bs in
+    let whole : slice_split is_blank (b ∷ bs) ≡ (b ∷ take k bs) ∷ s.others =
+    ap (λ t. cond t ([] ∷ slice_split is_blank bs) (onto_first b (slice_split is_blank bs))) is
+    ∙ ap (onto_first b) s.split in
+    ap (filter is_word) whole ∙ ap (λ rest. (b ∷ take k bs) ∷ rest) s.behind
+    ∙ sym (ap (λ n. take n (b ∷ bs) ∷ words (drop n (b ∷ bs))) more)
   where
-    by_case : SplitsAt text (before_space text) ⊎ IsWord text (before_space text) →
-        MatchOption (position (λ b. eqb b 32) text) (words text ≡ text ∷ []) (λ k. SplitsAt text k)
-    by_case (inl split) =
-        subst (λ t. MatchOption (cond t (Some (before_space text)) None) (words text ≡ text ∷ [])
-        (λ k. SplitsAt text k))
-        (sym (lt-ltb (before_space text) (length text) split.0)) split
-    by_case (inr whole) =
-        subst (λ t. MatchOption (cond t (Some (before_space text)) None) (words text ≡ text ∷ [])
-        (λ k. SplitsAt text k))
-        (sym (le-ltb (before_space text) (length text) whole.0)) whole.1
+    one_more : (k : ℕ) → 1 + k ≡ suc k
+    one_more k = omega arith
 
-pub split_at : (text : List ℕ) (k : ℕ) → Some k ≡ position (λ b. eqb b 32) text →
-    words text ≡ take k text ∷ words (take (length text - (k + 1)) (drop (k + 1) text))
-split_at text k is =
-    let split =
-    subst (λ o. MatchOption o (words text ≡ text ∷ []) (λ k. SplitsAt text k)) (sym is) (words_split text) in
-    split.1 ∙ ap (λ rest. take k text ∷ words rest) (sym whole)
+pub words-behind_blank : (text : List ℕ) (b : ℕ) (bs : List ℕ) → text ≡ b ∷ bs → is_blank b ≡ true →
+    words bs ≡ words text
+words-behind_blank text b bs is blank = sym (words-blank b bs blank) ∙ ap words (sym is)
+
+pub words-first : (text : List ℕ) (b : ℕ) (bs : List ℕ) → text ≡ b ∷ bs → is_blank b ≡ false →
+    words text ≡ (let k = position_or_len is_blank text in take k text ∷ words (drop k text))
+words-first text b bs is other =
+    subst (λ t. words t ≡ (let k = position_or_len is_blank t in take k t ∷ words (drop k t))) (sym is)
+    (words-front b bs other)
+
+pub words-none : (text : List ℕ) → length text ≡ 0 → words text ≡ []
+unfolding words
+words-none [] e = refl
+words-none (b ∷ bs) e = absurd (omega arith)
+
+prefix_len-le : (q : ℕ → Bool) (xs : List ℕ) → prefix_len q xs ≤ length xs
+prefix_len-le q [] = omega arith
+prefix_len-le q (x ∷ xs) =
+    let more = prefix_len-le q xs in
+    elim (q x) as (λ t. cond t (1 + prefix_len q xs) 0 ≤ length (x ∷ xs))
+    [ true ↦ omega (arith, more) | false ↦ omega arith ]
+
+pub position_or_len-le : (p : ℕ → Bool) (xs : List ℕ) → position_or_len p xs ≤ length xs
+position_or_len-le p xs = prefix_len-le (λ x. not (p x)) xs
+
+-- The place of the first element that passes, or the length.
+pub position-or_len : (p : ℕ → Bool) (xs : List ℕ) → unwrap_or (position p xs) (length xs) ≡ position_or_len p xs
+position-or_len p xs = by_place (nat_lt (position_or_len p xs) (length xs)) refl (position_or_len-le p xs)
   where
-    whole : take (length text - (k + 1)) (drop (k + 1) text) ≡ drop (k + 1) text
-    whole = take_all (length text - (k + 1)) (drop (k + 1) text) (omega (arith, length-drop (k + 1) text))
+    by_place : (t : Bool) → nat_lt (position_or_len p xs) (length xs) ≡ t → position_or_len p xs ≤ length xs →
+        unwrap_or (position p xs) (length xs) ≡ position_or_len p xs
+    by_place true is within = ap (λ t. unwrap_or (cond t (Some (position_or_len p xs)) None) (length xs)) is
+    by_place false is within =
+        ap (λ t. unwrap_or (cond t (Some (position_or_len p xs)) None) (length xs)) is
+        ∙ (let past : length xs ≤ position_or_len p xs = ltb-false (position_or_len p xs) (length xs) is in
+        omega arith)
 
-pub no_split : (text : List ℕ) → None ≡ position (λ b. eqb b 32) text → words text ≡ text ∷ []
-no_split text is =
-    subst (λ o. MatchOption o (words text ≡ text ∷ []) (λ k. SplitsAt text k)) (sym is) (words_split text)
+-- There are no more words than bytes.
+pub length-words : (text : List ℕ) → length (words text) ≤ length text
+unfolding words
+length-words [] = omega arith
+length-words (b ∷ bs) = by_byte (is_blank b) refl (length-words bs)
+  where
+    fewer : (piece : List ℕ) (others : List (List ℕ)) →
+        length (filter is_word others) ≤ length (filter is_word (piece ∷ others))
+    fewer [] others = omega arith
+    fewer (x ∷ xs) others = omega arith
+
+    by_byte : (t : Bool) → is_blank b ≡ t → length (words bs) ≤ length bs →
+        length (words (b ∷ bs)) ≤ length (b ∷ bs)
+    by_byte true is few = omega (arith, ap length (words-blank b bs is))
+    by_byte false is few =
+        let k = position_or_len is_blank bs in
+        let s = splits bs in
+        let whole : slice_split is_blank (b ∷ bs) ≡ (b ∷ take k bs) ∷ s.others =
+        ap (λ t. cond t ([] ∷ slice_split is_blank bs) (onto_first b (slice_split is_blank bs))) is
+        ∙ ap (onto_first b) s.split in
+        let now : words (b ∷ bs) ≡ (b ∷ take k bs) ∷ filter is_word s.others = ap (filter is_word) whole in
+        let before : words bs ≡ filter is_word (take k bs ∷ s.others) = ap (filter is_word) s.split in
+        omega (arith, ap length now, ap length before, fewer (take k bs) s.others)

@@ -1,3 +1,6 @@
 pub mod Words
-pub mod Small
-pub mod Built
+pub mod Commands
+pub mod Faults
+pub mod Reading
+pub mod Given
+pub mod Tests

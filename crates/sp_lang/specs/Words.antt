@@ -1,34 +1,25 @@
--- The words of a line, and what they stand for. This project's own.
-use Rattle.std.specs.Prelude.{ℕ, ◌+◌, ◌-◌, ◌*◌, ◌==◌, nat_eq, Bool, cond, if◌then◌else◌, List, [], ◌∷◌, flat_map, find}
-use Rattle.std.specs.Prelude.{fold, Option, Some, None}
-use Rattle.std.specs.List.{range_with_len}
-use Rattle.std.specs.Cmp.Lexicographic.{pointwise}
-use Rattle.std.specs.Fmt.{decimal}
-use Rattle.sp_defs.specs.Partition.{partitions}
-use Rattle.sp_defs.specs.Text.{partition_text}
+-- The words of a line. This project's own.
+use Rattle.std.specs.Prelude.{ℕ, ◌==◌, Bool, true, false, ◌&&◌, ◌||◌, nat_le, List, [], ◌∷◌, filter}
+use Rattle.std.specs.List.{slice_split}
+use Rattle.sp_partition.specs.Reading.{cut}
 
-abbrev pub onto_first : ℕ → List (List ℕ) → List (List ℕ)
-onto_first b [] = (b ∷ []) ∷ []
-onto_first b (word ∷ words) = (b ∷ word) ∷ words
+-- The printable characters of ASCII, and the tab.
+abbrev pub is_allowed : ℕ → Bool
+is_allowed byte = (nat_le 32 byte && nat_le byte 126) || byte == 9
 
--- What stands between single spaces.
+-- A space or a tab.
+abbrev pub is_blank : ℕ → Bool
+is_blank byte = byte == 32 || byte == 9
+
+-- A piece with a byte in it.
+abbrev pub is_word : List ℕ → Bool
+is_word [] = false
+is_word (byte ∷ bytes) = true
+
+-- What stands between blanks. Two blanks side by side have no word between them.
 unfoldable pub words : List ℕ → List (List ℕ)
-words [] = [] ∷ []
-words (b ∷ bs) = if b == 32 then [] ∷ words bs else onto_first b (words bs)
+words line = filter is_word (slice_split is_blank line)
 
--- Two texts are the same.
-abbrev pub is_text : List ℕ → List ℕ → Bool
-is_text text word = pointwise nat_eq text word
-
--- What digits count.
-abbrev pub digits_value : List ℕ → ℕ
-digits_value word = fold (λ n b. 10 * n + (b - 48)) 0 word
-
--- The number whose decimal text this is.
-unfoldable pub number_of : List ℕ → Option ℕ
-number_of word = cond (is_text (decimal (digits_value word)) word) (Some (digits_value word)) None
-
--- The partition of at most `most` whose canonical text this is.
-unfoldable pub partition_of : ℕ → List ℕ → Option (List ℕ)
-partition_of most word =
-    find (λ parts. is_text (partition_text parts) word) (flat_map partitions (range_with_len 0 (most + 1)))
+-- What stands between bars, as in a quotient.
+abbrev pub pieces : List ℕ → List (List ℕ)
+pieces word = cut 124 word

@@ -1,12 +1,42 @@
-use sp_partition::Partition;
+use sp_partition::{Items, Partition};
 
-/// A command. Its numbers stand in the order of its words.
-#[derive(Clone, Copy, Debug)]
+/// A command. Its fields stand in the order of its words.
+#[derive(Debug, Drop)]
 pub enum Command {
+    /// A line without words, or a comment.
+    Nothing,
+    /// `partitions n`: the partitions of n.
+    Partitions(u8),
+    /// `regular e n`: the e-regular partitions of n.
+    Regular(u8, u8),
+    /// `conjugate p`: the conjugate of p.
+    Conjugate(Partition),
+    /// `dominates p q`: whether p dominates q.
+    Dominates(Partition, Partition),
+    /// `diagram e p`: the residues of p, row by row.
+    Diagram(u8, Partition),
+    /// `hooks p`: the hook lengths of p, row by row.
+    Hooks(Partition),
+    /// `content e p`: how many nodes of p have each residue.
+    Content(u8, Partition),
+    /// `core e p`: the e-core of p, its weight and its quotient.
+    Core(u8, Partition),
+    /// `combine e k Q`: the partition with the core k and the quotient Q.
+    Combine(u8, Partition, Items<Partition>),
+    /// `abacus e p`: the abacus of p.
+    Abacus(u8, Partition),
+    /// `good e p`: the normal, good and cogood nodes of p.
+    Good(u8, Partition),
+    /// `path e mu`: the residues of the path of good nodes to mu.
+    Path(u8, Partition),
+    /// `mullineux e mu`: the Mullineux image of mu.
+    Mullineux(u8, Partition),
     /// `induce e i m p`: the m-th divided power of f_i on p.
     Induce(u8, u8, u8, Partition),
     /// `ladders e mu`: the ladders of mu.
     Ladders(u8, Partition),
     /// `ladder e mu`: the ladder vector of mu.
     Ladder(u8, Partition),
+    /// `row e mu`: the row of mu.
+    Row(u8, Partition),
 }

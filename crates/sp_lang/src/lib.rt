@@ -2,11 +2,18 @@
 #![tactic(auto)]
 
 mod command;
-mod number;
+mod fault;
 mod read;
+mod test;
 #[cfg(test)]
 mod tests;
+mod verb;
 mod word;
+mod words;
 
 pub use command::Command;
+pub use fault::LineFault;
 pub use read::read_command;
+
+/// The greatest number of bytes of a line.
+pub const LINE_LIMIT: usize = 4096;

@@ -1,146 +1,118 @@
 // A line as a command.
-ghost use Rattle.std.specs.Prelude.{◌≡◌, IfSome};
-ghost use Rattle.sp_lang.specs.Built.{IsCommand, command_of, is_e, induce_from, induce_of, label_from, label_of};
-ghost use Rattle.sp_lang.specs.Built.{with_label};
-ghost use Rattle.sp_lang.specs.declared.command.Command.TheVariants.{Ladder, Ladders};
-ghost use Rattle.sp_lang.specs.Words.{partition_of, words};
+ghost use Rattle.std.specs.Prelude.{◌≡◌, ◌≢◌, IfOk, OnErr, Ok, Err, None};
+ghost use Rattle.sp_lang.specs.Words.{words, is_allowed as allowed};
+ghost use Rattle.sp_lang.specs.Commands.{verb_of as verb_named, places_of, command_of};
+ghost use Rattle.sp_lang.specs.Faults.{first_fault as first_fault_of};
+ghost use Rattle.sp_lang.specs.Reading.{reading, said as said_by, said_behind as said_behind_by};
+ghost use Rattle.sp_lang.specs.Given.{IsCommand};
+ghost use Rattle.sp_lang.specs.Tests.{fitting_command};
 
-use crate::Command;
-use crate::number::small_number;
-use crate::word::split_word;
-use sp_partition::{DEGREE_LIMIT, Partition};
+use crate::test::{Test, any_fails};
+use crate::verb::{Place, VERBS, Verb};
+use crate::word::{all_fitting, byte, fitting};
+use crate::words::{split_word, word_at, word_count};
+use crate::{Command, LINE_LIMIT, LineFault};
+use sp_partition::{Items, Partition};
+use std::alloc::{AllocError, Global};
 
-/// The command that a line says, if it says one.
-pub fn read_command(line: &[u8]) -> Option<Command>
-    ensures says { result ≡ command_of line.now }
-    ensures command { IfSome result IsCommand }
+/// The one command that a line says, or its first fault.
+///
+/// The line is without its newline. Faults are looked for in this order: `LongLine`, `BadByte`, `UnknownCommand`,
+/// `WordCount`, `NotNumber`, `BadPartition`, `BadE`, `DegreePast`, `DegreesDiffer`, `BadResidue`, `NotRegular`.
+/// `Memory` comes where the pieces of a quotient find none.
+pub fn read_command(alloc: Global, line: &[u8]) -> Result<Command, LineFault>
+    ensures reads { result ≢ Err LineFault.Memory → result ≡ reading line.now }
+    ensures command { IfOk result IsCommand }
 {
-    said(line)
+    if line.len() > LINE_LIMIT {
+        return Err(LineFault::LongLine);
+    }
+    if !line.iter().all(|byte| is_allowed(*byte)) {
+        return Err(LineFault::BadByte);
+    }
+    said(alloc, line)
 }
 
-fn said(line: &[u8]) -> Option<Command>
-    ensures { result ≡ command_of line.now }
+fn is_allowed(byte: u8) -> bool
+    ensures { result ≡ allowed byte }
+{
+    b' ' <= byte && byte <= b'~' || byte == b'\t'
+}
+
+fn said(alloc: Global, line: &[u8]) -> Result<Command, LineFault>
+    ensures reads { result ≢ Err LineFault.Memory → result ≡ said_by (words line.now) }
 {
     let Some((first, rest)) = split_word(line) else {
-        return None;
+        return Ok(Command::Nothing);
     };
-    if first == b"induce".as_slice() {
-        induce(rest)
-    } else if first == b"ladders".as_slice() {
-        ladders(rest)
-    } else if first == b"ladder".as_slice() {
-        ladder(rest)
-    } else {
-        None
+    if first.first() == Some(&b'#') {
+        return Ok(Command::Nothing);
+    }
+    match verb_of(first) {
+        Some(verb) => said_behind(alloc, verb, rest),
+        None => Err(LineFault::UnknownCommand),
     }
 }
 
-// What stands behind the word `induce`.
-fn induce(rest: &[u8]) -> Option<Command>
-    ensures { result ≡ induce_from (words rest.now) }
+fn verb_of(word: &[u8]) -> Option<Verb>
+    ensures { result ≡ verb_named word.now }
 {
-    let Some((e, rest)) = split_word(rest) else {
-        return None;
-    };
-    let Some((i, rest)) = split_word(rest) else {
-        return None;
-    };
-    let Some((m, p)) = split_word(rest) else {
-        return None;
-    };
-    match split_word(p) {
-        Some(_) => None,
-        None => checked_induce(
-            small_number(e),
-            small_number(i),
-            small_number(m),
-            partition(p),
-        ),
+    VERBS.iter().find(|verb| verb.name() == word).copied()
+}
+
+fn said_behind(alloc: Global, verb: Verb, rest: &[u8]) -> Result<Command, LineFault> {
+    match first_fault(verb.places(), rest) {
+        Some(fault) => Err(fault),
+        None => command(alloc, verb, rest).map_err(|_| LineFault::Memory),
     }
 }
 
-// What stands behind the word `ladders`.
-fn ladders(rest: &[u8]) -> Option<Command>
-    ensures { result ≡ with_label Ladders (label_from (words rest.now)) }
-{
-    match label(rest) {
-        Some((e, mu)) => Some(Command::Ladders(e, mu)),
-        None => None,
+fn first_fault(places: &[Place], text: &[u8]) -> Option<LineFault> {
+    if word_count(text) != places.len() {
+        return Some(LineFault::WordCount);
     }
+    let first = word_at(text, 0);
+    let tests = [
+        (Test::Number, LineFault::NotNumber),
+        (Test::Partition, LineFault::BadPartition),
+        (Test::E, LineFault::BadE),
+        (Test::Degree(byte(word_at(text, 2))), LineFault::DegreePast),
+        (Test::Peer(fitting(first)), LineFault::DegreesDiffer),
+        (Test::Residue(byte(first)), LineFault::BadResidue),
+        (Test::Regular(byte(first)), LineFault::NotRegular),
+    ];
+    tests
+        .iter()
+        .find(|test| any_fails(test.0, places, text))
+        .map(|test| test.1)
 }
 
-// What stands behind the word `ladder`.
-fn ladder(rest: &[u8]) -> Option<Command>
-    ensures { result ≡ with_label Ladder (label_from (words rest.now)) }
+// The command, where its words have no fault.
+fn command(alloc: Global, verb: Verb, text: &[u8]) -> Result<Command, AllocError>
+    ensures { IfOk result (λ command. command ≡ fitting_command verb (words text.now)) }
 {
-    match label(rest) {
-        Some((e, mu)) => Some(Command::Ladder(e, mu)),
-        None => None,
-    }
-}
-
-// An e-regular partition behind a number e.
-fn label(rest: &[u8]) -> Option<(u8, Partition)>
-    ensures { result ≡ label_from (words rest.now) }
-{
-    let Some((e, mu)) = split_word(rest) else {
-        return None;
-    };
-    match split_word(mu) {
-        Some(_) => None,
-        None => checked_label(small_number(e), partition(mu)),
-    }
-}
-
-fn is_e(e: u8) -> bool
-    ensures { result ≡ is_e e }
-{
-    2 <= e && e <= 64
-}
-
-fn checked_induce(
-    e: Option<u8>,
-    i: Option<u8>,
-    m: Option<u8>,
-    p: Option<Partition>,
-) -> Option<Command>
-    ensures { result ≡ induce_of e i m p }
-{
-    let (Some(e), Some(i), Some(m), Some(p)) = (e, i, m, p) else {
-        return None;
-    };
-    if is_e(e) && i < e && u16::from(p.degree()) + u16::from(m) <= u16::from(DEGREE_LIMIT) {
-        Some(Command::Induce(e, i, m, p))
-    } else {
-        None
-    }
-}
-
-fn checked_label(e: Option<u8>, mu: Option<Partition>) -> Option<(u8, Partition)>
-    ensures { result ≡ label_of e mu }
-{
-    let (Some(e), Some(mu)) = (e, mu) else {
-        return None;
-    };
-    if is_e(e) && mu.is_regular(e) {
-        Some((e, mu))
-    } else {
-        None
-    }
-}
-
-// The partition that a word says, where it is of a degree that the commands take.
-fn partition(word: &[u8]) -> Option<Partition>
-    ensures { result ≡ partition_of DEGREE_LIMIT word.now }
-{
-    match Partition::parse(word) {
-        Ok(p) => {
-            if p.degree() <= DEGREE_LIMIT {
-                Some(p)
-            } else {
-                None
-            }
+    let number = |place| byte(word_at(text, place));
+    let partition = |place| fitting(word_at(text, place));
+    Ok(match verb {
+        Verb::Partitions => Command::Partitions(number(0)),
+        Verb::Regular => Command::Regular(number(0), number(1)),
+        Verb::Conjugate => Command::Conjugate(partition(0)),
+        Verb::Dominates => Command::Dominates(partition(0), partition(1)),
+        Verb::Diagram => Command::Diagram(number(0), partition(1)),
+        Verb::Hooks => Command::Hooks(partition(0)),
+        Verb::Content => Command::Content(number(0), partition(1)),
+        Verb::Core => Command::Core(number(0), partition(1)),
+        Verb::Combine => {
+            let quotient = all_fitting(alloc, word_at(text, 2))?;
+            Command::Combine(number(0), partition(1), Items::of(quotient))
         }
-        Err(_) => None,
-    }
+        Verb::Abacus => Command::Abacus(number(0), partition(1)),
+        Verb::Good => Command::Good(number(0), partition(1)),
+        Verb::Path => Command::Path(number(0), partition(1)),
+        Verb::Mullineux => Command::Mullineux(number(0), partition(1)),
+        Verb::Induce => Command::Induce(number(0), number(1), number(2), partition(3)),
+        Verb::Ladders => Command::Ladders(number(0), partition(1)),
+        Verb::Ladder => Command::Ladder(number(0), partition(1)),
+        Verb::Row => Command::Row(number(0), partition(1)),
+    })
 }

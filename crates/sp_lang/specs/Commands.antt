@@ -1,0 +1,103 @@
+-- The commands: the first word of each, the places behind it, and what its words say. This project's own.
+use Rattle.std.specs.Prelude.{ℕ, nat_eq, List, [], ◌∷◌, Option, find, unwrap_or, codes, map, slice_index_or}
+use Rattle.std.specs.Cmp.Lexicographic.{pointwise}
+use Rattle.sp_partition.specs.Reading.{number_of, partition_of}
+use Rattle.sp_lang.specs.Words.{pieces}
+use Rattle.sp_lang.specs.declared.command.Command.{Command}
+use Rattle.sp_lang.specs.declared.command.Command.TheVariants as command
+use Rattle.sp_lang.specs.declared.verb.Verb.{Verb}
+use Rattle.sp_lang.specs.declared.verb.Verb.TheVariants.{Partitions, Regular, Conjugate, Dominates, Diagram, Hooks}
+use Rattle.sp_lang.specs.declared.verb.Verb.TheVariants.{Content, Core, Combine, Abacus, Good, Path, Mullineux}
+use Rattle.sp_lang.specs.declared.verb.Verb.TheVariants.{Induce, Ladders, Ladder, Row}
+use Rattle.sp_lang.specs.declared.verb.Place.{Place}
+use Rattle.sp_lang.specs.declared.verb.Place.TheVariants.{E, Residue, Count, Degree, Partition, Peer, Grown, Label}
+use Rattle.sp_lang.specs.declared.verb.Place.TheVariants.{Quotient}
+
+abbrev pub name_of : Verb → List ℕ
+name_of Partitions = codes "partitions"
+name_of Regular = codes "regular"
+name_of Conjugate = codes "conjugate"
+name_of Dominates = codes "dominates"
+name_of Diagram = codes "diagram"
+name_of Hooks = codes "hooks"
+name_of Content = codes "content"
+name_of Core = codes "core"
+name_of Combine = codes "combine"
+name_of Abacus = codes "abacus"
+name_of Good = codes "good"
+name_of Path = codes "path"
+name_of Mullineux = codes "mullineux"
+name_of Induce = codes "induce"
+name_of Ladders = codes "ladders"
+name_of Ladder = codes "ladder"
+name_of Row = codes "row"
+
+abbrev pub places_of : Verb → List Place
+places_of Partitions = Degree ∷ []
+places_of Regular = E ∷ Degree ∷ []
+places_of Conjugate = Partition ∷ []
+places_of Dominates = Partition ∷ Peer ∷ []
+places_of Diagram = E ∷ Partition ∷ []
+places_of Hooks = Partition ∷ []
+places_of Content = E ∷ Partition ∷ []
+places_of Core = E ∷ Partition ∷ []
+places_of Combine = E ∷ Partition ∷ Quotient ∷ []
+places_of Abacus = E ∷ Partition ∷ []
+places_of Good = E ∷ Partition ∷ []
+places_of Path = E ∷ Label ∷ []
+places_of Mullineux = E ∷ Label ∷ []
+places_of Induce = E ∷ Residue ∷ Count ∷ Grown ∷ []
+places_of Ladders = E ∷ Label ∷ []
+places_of Ladder = E ∷ Label ∷ []
+places_of Row = E ∷ Label ∷ []
+
+abbrev pub verbs : List Verb
+verbs =
+    Partitions ∷ Regular ∷ Conjugate ∷ Dominates ∷ Diagram ∷ Hooks ∷ Content ∷ Core ∷ Combine ∷ Abacus ∷ Good ∷ Path
+    ∷ Mullineux ∷ Induce ∷ Ladders ∷ Ladder ∷ Row ∷ []
+
+-- The command whose first word this is.
+unfoldable pub verb_of : List ℕ → Option Verb
+verb_of word = find (λ verb. pointwise nat_eq (name_of verb) word) verbs
+
+-- What a word says that says a number, and what one says that says a partition.
+abbrev pub number : List ℕ → ℕ
+number word = unwrap_or (number_of word) 0
+
+abbrev pub partition : List ℕ → List ℕ
+partition word = unwrap_or (partition_of word) []
+
+-- The word at a place that is counted from 0.
+abbrev pub word_at : List (List ℕ) → ℕ → List ℕ
+word_at words k = slice_index_or words k []
+
+abbrev pub partitions : List ℕ → List (List ℕ)
+partitions word = map partition (pieces word)
+
+-- The command, by what its words say at each place.
+abbrev pub command_with : (ℕ → ℕ) → (ℕ → List ℕ) → (ℕ → List (List ℕ)) → Verb → Command
+command_with number_at partition_at partitions_at Partitions = command.Partitions (number_at 0)
+command_with number_at partition_at partitions_at Regular = command.Regular (number_at 0) (number_at 1)
+command_with number_at partition_at partitions_at Conjugate = command.Conjugate (partition_at 0)
+command_with number_at partition_at partitions_at Dominates = command.Dominates (partition_at 0) (partition_at 1)
+command_with number_at partition_at partitions_at Diagram = command.Diagram (number_at 0) (partition_at 1)
+command_with number_at partition_at partitions_at Hooks = command.Hooks (partition_at 0)
+command_with number_at partition_at partitions_at Content = command.Content (number_at 0) (partition_at 1)
+command_with number_at partition_at partitions_at Core = command.Core (number_at 0) (partition_at 1)
+command_with number_at partition_at partitions_at Combine =
+    command.Combine (number_at 0) (partition_at 1) (partitions_at 2)
+command_with number_at partition_at partitions_at Abacus = command.Abacus (number_at 0) (partition_at 1)
+command_with number_at partition_at partitions_at Good = command.Good (number_at 0) (partition_at 1)
+command_with number_at partition_at partitions_at Path = command.Path (number_at 0) (partition_at 1)
+command_with number_at partition_at partitions_at Mullineux = command.Mullineux (number_at 0) (partition_at 1)
+command_with number_at partition_at partitions_at Induce =
+    command.Induce (number_at 0) (number_at 1) (number_at 2) (partition_at 3)
+command_with number_at partition_at partitions_at Ladders = command.Ladders (number_at 0) (partition_at 1)
+command_with number_at partition_at partitions_at Ladder = command.Ladder (number_at 0) (partition_at 1)
+command_with number_at partition_at partitions_at Row = command.Row (number_at 0) (partition_at 1)
+
+-- What the words behind the first one say.
+unfoldable pub command_of : Verb → List (List ℕ) → Command
+command_of verb words =
+    command_with (λ k. number (word_at words k)) (λ k. partition (word_at words k)) (λ k. partitions (word_at words k))
+    verb

@@ -1,0 +1,120 @@
+// The first words of commands, and what stands behind each.
+ghost use Rattle.std.specs.Prelude.{◌≡◌};
+ghost use Rattle.sp_lang.specs.Commands.{name_of, places_of};
+
+/// The first word of a command.
+#[derive(Clone, Copy, Debug)]
+pub enum Verb {
+    Partitions,
+    Regular,
+    Conjugate,
+    Dominates,
+    Diagram,
+    Hooks,
+    Content,
+    Core,
+    Combine,
+    Abacus,
+    Good,
+    Path,
+    Mullineux,
+    Induce,
+    Ladders,
+    Ladder,
+    Row,
+}
+
+/// What a word of a command stands for.
+#[derive(Clone, Copy, Debug)]
+pub enum Place {
+    /// The number e.
+    E,
+    /// A residue, below the number e that is the first word.
+    Residue,
+    /// A number of nodes.
+    Count,
+    /// A degree.
+    Degree,
+    /// A partition.
+    Partition,
+    /// A partition of the same degree as the first word.
+    Peer,
+    /// A partition that as many nodes are added to as the third word says.
+    Grown,
+    /// A partition that is e-regular, where e is the first word.
+    Label,
+    /// Partitions with bars between.
+    Quotient,
+}
+
+pub(crate) const VERBS: [Verb; 17] = [
+    Verb::Partitions,
+    Verb::Regular,
+    Verb::Conjugate,
+    Verb::Dominates,
+    Verb::Diagram,
+    Verb::Hooks,
+    Verb::Content,
+    Verb::Core,
+    Verb::Combine,
+    Verb::Abacus,
+    Verb::Good,
+    Verb::Path,
+    Verb::Mullineux,
+    Verb::Induce,
+    Verb::Ladders,
+    Verb::Ladder,
+    Verb::Row,
+];
+
+impl Verb {
+    /// The word.
+    pub(crate) fn name(&self) -> &'static [u8]
+        ensures { result.now ≡ name_of self.now }
+    {
+        match *self {
+            Verb::Partitions => b"partitions",
+            Verb::Regular => b"regular",
+            Verb::Conjugate => b"conjugate",
+            Verb::Dominates => b"dominates",
+            Verb::Diagram => b"diagram",
+            Verb::Hooks => b"hooks",
+            Verb::Content => b"content",
+            Verb::Core => b"core",
+            Verb::Combine => b"combine",
+            Verb::Abacus => b"abacus",
+            Verb::Good => b"good",
+            Verb::Path => b"path",
+            Verb::Mullineux => b"mullineux",
+            Verb::Induce => b"induce",
+            Verb::Ladders => b"ladders",
+            Verb::Ladder => b"ladder",
+            Verb::Row => b"row",
+        }
+    }
+
+    /// What stands behind it.
+    pub(crate) fn places(&self) -> &'static [Place]
+        ensures { result.now ≡ places_of self.now }
+    {
+        match *self {
+            Verb::Partitions => &[Place::Degree],
+            Verb::Regular => &[Place::E, Place::Degree],
+            Verb::Conjugate => &[Place::Partition],
+            Verb::Dominates => &[Place::Partition, Place::Peer],
+            Verb::Diagram => &[Place::E, Place::Partition],
+            Verb::Hooks => &[Place::Partition],
+            Verb::Content => &[Place::E, Place::Partition],
+            Verb::Core => &[Place::E, Place::Partition],
+            Verb::Combine => &[Place::E, Place::Partition, Place::Quotient],
+            Verb::Abacus => &[Place::E, Place::Partition],
+            Verb::Good => &[Place::E, Place::Partition],
+            Verb::Path => &[Place::E, Place::Label],
+            Verb::Mullineux => &[Place::E, Place::Label],
+            Verb::Induce => &[Place::E, Place::Residue, Place::Count, Place::Grown],
+            Verb::Ladders => &[Place::E, Place::Label],
+            Verb::Ladder => &[Place::E, Place::Label],
+            Verb::Row => &[Place::E, Place::Label],
+        }
+    }
+}
