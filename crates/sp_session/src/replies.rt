@@ -1,13 +1,21 @@
-// The answers to the commands.
-ghost use Rattle.std.specs.Prelude.{◌≡◌, ◌++◌, ◌≤◌, ◌<◌, ◌^◌, ◌+◌, true, OnOk};
-ghost use Rattle.sp_lang.specs.Built.{IsCommand, command_of};
-ghost use Rattle.sp_session.specs.Reply.{answer_or_refusal, answer_to};
+// The reply to a line.
+ghost use Rattle.std.specs.Prelude.{◌≡◌, ◌++◌, ◌≤◌, ◌<◌, ◌^◌, OnOk};
+ghost use Rattle.sp_lang.specs.Given.{IsCommand};
+ghost use Rattle.sp_lang.specs.Reading.{reading};
+ghost use Rattle.sp_session.specs.Reply.{answer_or_fault, answer_to};
 
+use crate::abacuses::{put_combined, put_core};
+use crate::diagrams::put_content;
+use crate::faults::put_fault;
+use crate::orders::{put_conjugate, put_dominance, put_partitions, put_regulars};
+use crate::signatures::{put_good, put_image, put_path};
 use crate::vectors::{put_induced, put_ladder_vector, put_ladders};
-use sp_lang::{Command, read_command};
+use sp_abacus::abacus_text;
+use sp_lang::{Command, LineFault, read_command};
+use sp_nodes::{diagram_text, hooks_text};
 use std::alloc::{AllocError, Global};
 
-/// Appends the answer to a line. An `Err` leaves `out` unspecified.
+/// Appends the reply to a line: the answer to its command, or its first fault. An `Err` leaves `out` unspecified.
 pub(crate) fn put_reply(
     alloc: Global,
     limit: u128,
@@ -16,11 +24,12 @@ pub(crate) fn put_reply(
 ) -> Result<(), AllocError>
     requires least { 1 ≤ limit }
     requires most { limit < 2 ^ 127 }
-    ensures { OnOk result (out.new.items ≡ out.old.items ++ answer_or_refusal limit (command_of line.now)) }
+    ensures { OnOk result (out.new.items ≡ out.old.items ++ answer_or_fault limit (reading line.now)) }
 {
-    match read_command(line) {
-        Some(command) => put_answer(alloc, limit, &command, out),
-        None => out.extend_from_slice(b"error 1 unknown command\n"),
+    match read_command(alloc, line) {
+        Ok(command) => put_answer(alloc, limit, &command, out),
+        Err(LineFault::Memory) => Err(AllocError),
+        Err(fault) => put_fault(fault, out),
     }
 }
 
@@ -38,8 +47,26 @@ fn put_answer(
     ensures { OnOk result (out.new.items ≡ out.old.items ++ answer_to limit command.now) }
 {
     match command {
+        Command::Nothing => Ok(()),
+        Command::Partitions(n) => put_partitions(alloc, *n, out),
+        Command::Regular(e, n) => put_regulars(alloc, *e, *n, out),
+        Command::Conjugate(p) => put_conjugate(alloc, p, out),
+        Command::Dominates(upper, lower) => put_dominance(upper, lower, out),
+        Command::Diagram(e, p) => diagram_text(alloc, *e, p, out),
+        Command::Hooks(p) => hooks_text(alloc, p, out),
+        Command::Content(e, p) => put_content(alloc, *e, p, out),
+        Command::Core(e, p) => put_core(alloc, *e, p, out),
+        Command::Combine(e, kappa, quotient) => {
+            put_combined(alloc, *e, kappa, quotient.as_slice(), out)
+        }
+        Command::Abacus(e, p) => abacus_text(alloc, *e, p, out),
+        Command::Good(e, p) => put_good(alloc, *e, p, out),
+        Command::Path(e, mu) => put_path(alloc, *e, mu, out),
+        Command::Mullineux(e, mu) => put_image(alloc, *e, mu, out),
         Command::Induce(e, i, m, p) => put_induced(alloc, limit, *e, *i, *m, p, out),
         Command::Ladders(e, mu) => put_ladders(alloc, *e, mu, out),
         Command::Ladder(e, mu) => put_ladder_vector(alloc, limit, *e, mu, out),
+        // not built yet
+        Command::Row(_, _) => put_fault(LineFault::UnknownCommand, out),
     }
 }
