@@ -1,144 +1,119 @@
--- The canonical text of a partition that there is room for is read as that partition, and no other text is.
-use Rattle.std.proofs.Common.{◌≡◌, ℕ, zero, suc, ◌*◌, ◌<◌, ◌≤◌, cond, List, [], ◌∷◌, ◌++◌, length, drop, replicate}
-use Rattle.std.proofs.Common.{slice_index, codes, refl, sym, ◌∙◌, ap, ap₂, subst, arith, ◌⊎◌, inl, inr, append-nil}
-use Rattle.std.proofs.Common.{append_assoc, lt-ltb, length-drop, eq-or-lt_of_le}
+-- The canonical text of a partition is read as that partition.
+use Rattle.std.proofs.Common.{◌≡◌, ℕ, zero, suc, ◌-◌, ◌*◌, ◌^◌, ◌<◌, ◌≤◌, cond, ◌&&◌, nat_eq, nat_lt}
+use Rattle.std.proofs.Common.{nat_le, List, [], ◌∷◌, ◌++◌, length, take, drop, replicate, slice_index, codes, refl, sym}
+use Rattle.std.proofs.Common.{◌∙◌, ap, subst, arith, ◌⊎◌, inl, inr, append-nil, append_assoc, lt-ltb, length-drop}
+use Rattle.std.proofs.Common.{eq-or-lt_of_le, Some, None, Ok, Err, ne_eqb, le-leb}
+use Rattle.std.specs.Cmp.Lexicographic.{pointwise}
 use Rattle.std.specs.Fmt.{decimal}
-use Rattle.std.specs.Prelude.{Result, Ok, Err}
-use Rattle.std.specs.Result.{IfOk}
-use Rattle.std.specs.Str.Parse.{AllDigits}
-use Rattle.std.proofs.lemmas.Fmt.{decimal_is_IsNumeral, decimal-digits_value, first_decimal}
+use Rattle.std.specs.List.{starts_with, ends_with, slice_range}
+use Rattle.std.specs.Option.{option_and_then}
+use Rattle.std.specs.Prelude.{Result}
+use Rattle.std.proofs.lemmas.Bool.{and_left, cond_both, cond-true, cond-false, false_from_ne_true}
+use Rattle.std.proofs.lemmas.Fmt.{decimal_is_IsNumeral, first_decimal}
 use Rattle.std.proofs.lemmas.List.Folds.{sum_by-replicate}
 use Rattle.std.proofs.lemmas.List.Sums.{sum_by-append, sum_by-cons}
-use Rattle.std.proofs.lemmas.Str.Parse.{numerals_by_value, tells_digits, digit_from_value}
+use Rattle.std.proofs.lemmas.Str.Parse.{digit_from_value}
 use Rattle.sp_defs.specs.Partition.{degree, IsPartition}
 use Rattle.sp_defs.specs.Text.{part_text, partition_text}
 use Rattle.sp_shapes.proofs.Diagram.{IsPartition-tail, IsPartition-head}
-use Rattle.sp_partition.specs.Grammar.{IsNumber, IsItem, once, often, IsList, single, followed, IsReadAs, dash, listed}
 use Rattle.sp_partition.specs.Held.{IsHeld}
-use Rattle.sp_partition.specs.Pieces.{ReadsTo}
+use Rattle.sp_partition.specs.OrderLaws.{equal_lists}
+use Rattle.sp_partition.specs.Pieces.{IsNumber}
+use Rattle.sp_partition.specs.Reading.{cut, item_of, items_of, falls, list_of, inner, partition_of, parsed}
 use Rattle.sp_partition.specs.Runs.{lead}
-use Rattle.sp_partition.specs.declared.partition.NotPartition.{NotPartition}
-use Rattle.sp_partition.specs.declared.partition.NotPartition.TheVariants.{Shape, PastCapacity}
-use Rattle.sp_shapes.proofs.Listing.{IsPartition-nil}
 use Rattle.sp_partition.specs.declared.TheConstants.{CAPACITY}
-use Rattle.sp_partition.proofs.ListReading.{item_some}
-use Rattle.sp_partition.proofs.Progress.{factor_le}
-use Rattle.sp_partition.proofs.Runs.{Below, below_all, later_text, text-run, Splits, splits, lead_some}
+use Rattle.sp_partition.specs.declared.partition.NotPartition.{NotPartition}
+use Rattle.sp_partition.specs.declared.partition.NotPartition.TheVariants.{PastCapacity}
+use Rattle.sp_partition.proofs.Falls.{falls_partition}
+use Rattle.sp_partition.proofs.ItemReading.{plain_item, power_item}
+use Rattle.sp_partition.proofs.Marks.{Free, free_append, digits_free, cut_free, cut_mark}
+use Rattle.sp_partition.proofs.Progress.{factor_le, onto}
+use Rattle.sp_partition.proofs.Runs.{Below, later_text, text-run, Splits, splits, lead_some}
 
 -- ---- numbers and items
 
-number_text : (n : ℕ) → 0 < n → n ≤ CAPACITY → IsNumber (decimal n) n
+-- Numbers below 2 ^ 64 are written whole.
+number_text : (n : ℕ) → 0 < n → n < 2 ^ 64 → IsNumber (decimal n) n
 number_text n some small = record {
-  digits = (decimal_is_IsNumeral n (omega arith)).0;
-  first = λ e. let lead : 48 < slice_index (decimal n) 0 = first_decimal n some (omega arith) in absurd (omega arith);
-  value = (decimal_is_IsNumeral n (omega arith)).1;
+  digits = (decimal_is_IsNumeral n small).0;
+  first = λ e. let lead : 48 < slice_index (decimal n) 0 = first_decimal n some small in absurd (omega arith);
+  value = (decimal_is_IsNumeral n small).1;
 }
 
-number_only : (text : List ℕ) (n : ℕ) → n ≤ CAPACITY → IsNumber text n → text ≡ decimal n
-number_only text n small h =
-    sym (decimal-digits_value (numerals_by_value (AllDigits 10) tells_digits) text h.digits.1 h.digits.0
-    (λ e. absurd (h.first e)) (omega (arith, h.value)))
-    ∙ ap decimal h.value
+often_text : (p m : ℕ) → 1 < m → decimal p ++ (codes "^" ++ decimal m) ≡ part_text p m
+often_text p m two = ap (λ b. decimal p ++ cond b (codes "^" ++ decimal m) []) (sym (lt-ltb 1 m two))
 
-often_text : (p m : ℕ) → 2 ≤ m → decimal p ++ (codes "^" ++ decimal m) ≡ part_text p m
-often_text p m two = ap (λ b. decimal p ++ cond b (codes "^" ++ decimal m) []) (sym (lt-ltb 1 m (omega arith)))
-
-item_text : (p m : ℕ) → 0 < p → p ≤ CAPACITY → 0 < m → m ≤ CAPACITY → IsItem (part_text p m) p m
+item_text : (p m : ℕ) → 0 < p → p < 2 ^ 64 → 0 < m → m < 2 ^ 64 →
+    item_of (cut 94 (part_text p m)) ≡ Some (replicate m p)
 item_text p m hp sp hm sm = settle (eq-or-lt_of_le (least hm))
   where
     least : 0 < m → 1 ≤ m
     least h = omega arith
 
-    settle : (1 ≡ m) ⊎ (1 < m) → IsItem (part_text p m) p m
-    settle (inl e) = subst (λ n. IsItem (part_text p n) p n) e
-        (subst (λ t. IsItem t p 1) (sym (append-nil (decimal p))) (once (decimal p) p (number_text p hp sp)))
-    settle (inr two) = subst (λ t. IsItem t p m) (often_text p m (omega arith))
-        (often (decimal p) (decimal m) p m (number_text p hp sp) (number_text m hm sm) (omega arith))
+    settle : (1 ≡ m) ⊎ (1 < m) → item_of (cut 94 (part_text p m)) ≡ Some (replicate m p)
+    settle (inl e) = subst (λ n. item_of (cut 94 (part_text p n)) ≡ Some (replicate n p)) e
+        (ap (λ t. item_of (cut 94 t)) (append-nil (decimal p)) ∙ plain_item (decimal p) p (number_text p hp sp))
+    settle (inr two) =
+        ap (λ t. item_of (cut 94 t)) (sym (often_text p m two))
+        ∙ power_item (decimal p) (decimal m) p m (number_text p hp sp) (number_text m hm sm)
 
-item_only : (text : List ℕ) (p m : ℕ) → p ≤ CAPACITY → m ≤ CAPACITY → IsItem text p m → text ≡ part_text p m
-item_only text p m sp sm (once _ _ h) = number_only text p sp h ∙ sym (append-nil (decimal p))
-item_only text p m sp sm (often base exponent _ _ h k two) =
-    ap₂ (λ xs ys. xs ++ (codes "^" ++ ys)) (number_only base p sp h) (number_only exponent m sm k) ∙ often_text p m two
+-- 44 is the comma.
+item_free : (p m : ℕ) → 0 < p → p < 2 ^ 64 → 0 < m → m < 2 ^ 64 → Free 44 (part_text p m)
+item_free p m hp sp hm sm =
+    free_append 44 (decimal p) (cond (nat_lt 1 m) (codes "^" ++ decimal m) [])
+    (digits_free 44 (decimal p) (omega arith) (number_text p hp sp).digits.1)
+    (cond_both (nat_lt 1 m) (codes "^" ++ decimal m) [] (Free 44)
+    (λ _. ((λ e. omega arith), digits_free 44 (decimal m) (omega arith) (number_text m hm sm).digits.1)) (λ _. tt))
 
 -- ---- runs
 
--- The numbers of a run in a partition that there is room for are small.
-pub record Small (m p : ℕ) (more : List ℕ) : Type 0 where
-  pub part : p ≤ CAPACITY
-  pub count : m ≤ CAPACITY
-  pub more_held : IsHeld more
+-- A partition whose numbers are written whole.
+pub record IsWritten (parts : List ℕ) : Type 0 where
+  pub partition : IsPartition parts
+  pub small : degree parts < 2 ^ 64
 
-behind_held : (m p : ℕ) (more : List ℕ) → IsHeld (replicate m p ++ more) → IsHeld more
-behind_held zero p more h = h
-behind_held (suc m) p more h = behind_held m p more (record {
+-- The numbers of its first run.
+pub record Small (m p : ℕ) (more : List ℕ) : Type 0 where
+  pub part : p < 2 ^ 64
+  pub count : m < 2 ^ 64
+  pub more_written : IsWritten more
+
+behind_written : (m p : ℕ) (more : List ℕ) → IsWritten (replicate m p ++ more) → IsWritten more
+behind_written zero p more h = h
+behind_written (suc m) p more h = behind_written m p more (record {
   partition = IsPartition-tail p (replicate m p ++ more) h.partition;
-  small = let s : degree (p ∷ (replicate m p ++ more)) ≤ CAPACITY = h.small in
+  small = let s : degree (p ∷ (replicate m p ++ more)) < 2 ^ 64 = h.small in
       omega (arith, sum_by-cons (λ x. x) p (replicate m p ++ more));
 })
 
-small_run : (m p : ℕ) (more : List ℕ) → 0 < m → 0 < p → IsHeld (replicate m p ++ more) → Small m p more
+small_run : (m p : ℕ) (more : List ℕ) → 0 < m → 0 < p → IsWritten (replicate m p ++ more) → Small m p more
 small_run m p more hm hp h = record {
   part = omega (arith, factor_le p m hm, product, commuted m p);
   count = omega (arith, factor_le m p hp, product);
-  more_held = behind_held m p more h;
+  more_written = behind_written m p more h;
 }
   where
-    product : m * p ≤ CAPACITY
-    product = let s : degree (replicate m p ++ more) ≤ CAPACITY = h.small in
+    product : m * p < 2 ^ 64
+    product = let s : degree (replicate m p ++ more) < 2 ^ 64 = h.small in
         omega (arith, sum_by-append (λ x. x) (replicate m p) more, sum_by-replicate (λ x. x) m p)
 
     commuted : (m p : ℕ) → p * m ≡ m * p
     commuted m p = omega arith
-
-below_more : (p : ℕ) (more : List ℕ) → IsPartition more → slice_index more 0 < p → Below p more
-below_more p [] h lt = tt
-below_more p (x ∷ more) h lt = below_all p x more h lt
 
 run_text : (m p : ℕ) (rest : List ℕ) → 0 < m → Below p rest →
     partition_text (replicate m p ++ rest) ≡ part_text p m ++ later_text rest
 run_text zero p rest hm h = absurd (omega arith)
 run_text (suc m) p rest hm h = text-run m p rest h
 
--- ---- the text is read as the partition
+-- ---- the items of a text
 
-list_some : (text parts : List ℕ) → IsList text parts → 0 < length parts
-list_some text parts (single _ p m item) = some m p (item_some text p m item).1
-  where
-    some : (m p : ℕ) → 0 < m → 0 < length (replicate m p)
-    some zero p h = absurd (omega arith)
-    some (suc m) p h = omega arith
-list_some text parts (followed first rest more p m item others less) = some m p more (item_some first p m item).1
-  where
-    some : (m p : ℕ) (more : List ℕ) → 0 < m → 0 < length (replicate m p ++ more)
-    some zero p more h = absurd (omega arith)
-    some (suc m) p more h = omega arith
-
-later_some : (parts : List ℕ) → 0 < length parts → later_text parts ≡ codes "," ++ partition_text parts
-later_some [] h = absurd (omega arith)
-later_some (p ∷ parts) h = refl
-
--- A text that is read as such a list is its canonical text.
-list_only : (text parts : List ℕ) → IsList text parts → IsHeld parts → text ≡ partition_text parts
-list_only text parts (single _ p m item) h =
-    let some = item_some text p m item in
-    let small = small_run m p [] some.1 some.0 (subst IsHeld (sym (append-nil (replicate m p))) h) in
-    item_only text p m small.part small.count item ∙ sym (append-nil (part_text p m))
-    ∙ sym (run_text m p [] some.1 tt) ∙ ap partition_text (append-nil (replicate m p))
-list_only text parts (followed first rest more p m item others less) h =
-    let some = item_some first p m item in
-    let small = small_run m p more some.1 some.0 h in
-    ap₂ (λ xs ys. xs ++ (codes "," ++ ys)) (item_only first p m small.part small.count item)
-    (list_only rest more others small.more_held)
-    ∙ ap (λ ys. part_text p m ++ ys) (sym (later_some more (list_some rest more others)))
-    ∙ sym (run_text m p more some.1 (below_more p more small.more_held.partition less))
-
--- The canonical text of such a partition is a list.
-list_text : (n : ℕ) (parts : List ℕ) → length parts ≤ n → 0 < length parts → IsHeld parts →
-    IsList (partition_text parts) parts
-list_text zero parts le some h = absurd (omega arith)
-list_text (suc n) [] le some h = absurd (omega arith)
-list_text (suc n) (p ∷ parts) le some h = subst (λ xs. IsList (partition_text xs) xs) (sym split.list)
-    (behind (list_text n) (drop count (p ∷ parts)) refl)
+items_text : (n : ℕ) (parts : List ℕ) → length parts ≤ n → 0 < length parts → IsWritten parts →
+    items_of (cut 44 (partition_text parts)) ≡ Some parts
+items_text zero parts le some h = absurd (omega arith)
+items_text (suc n) [] le some h = absurd (omega arith)
+items_text (suc n) (p ∷ parts) le some h =
+    subst (λ xs. items_of (cut 44 (partition_text xs)) ≡ Some xs) (sym split.list)
+    (behind (items_text n) (drop count (p ∷ parts)) refl)
   where
     count : ℕ
     count = lead (p ∷ parts)
@@ -149,129 +124,114 @@ list_text (suc n) (p ∷ parts) le some h = subst (λ xs. IsList (partition_text
     positive : 0 < count
     positive = omega (arith, lead_some p parts)
 
-    held : IsHeld (replicate count p ++ drop count (p ∷ parts))
-    held = subst IsHeld split.list h
+    some_part : 0 < p
+    some_part = IsPartition-head p parts h.partition
 
     small : Small count p (drop count (p ∷ parts))
-    small = small_run count p (drop count (p ∷ parts)) positive (IsPartition-head p parts h.partition) held
+    small = small_run count p (drop count (p ∷ parts)) positive some_part (subst IsWritten split.list h)
 
-    item : IsItem (part_text p count) p count
-    item = item_text p count (IsPartition-head p parts h.partition) small.part positive small.count
+    item : item_of (cut 94 (part_text p count)) ≡ Some (replicate count p)
+    item = item_text p count some_part small.part positive small.count
 
-    behind : ((ps : List ℕ) → length ps ≤ n → 0 < length ps → IsHeld ps → IsList (partition_text ps) ps) →
+    free : Free 44 (part_text p count)
+    free = item_free p count some_part small.part positive small.count
+
+    behind : ((ps : List ℕ) → length ps ≤ n → 0 < length ps → IsWritten ps →
+        items_of (cut 44 (partition_text ps)) ≡ Some ps) →
         (rest : List ℕ) → drop count (p ∷ parts) ≡ rest →
-        IsList (partition_text (replicate count p ++ rest)) (replicate count p ++ rest)
+        items_of (cut 44 (partition_text (replicate count p ++ rest))) ≡ Some (replicate count p ++ rest)
     behind shorter [] e =
-        subst (λ xs. IsList (partition_text xs) xs) (sym (append-nil (replicate count p)))
-        (subst (λ t. IsList t (replicate count p))
-        (sym (ap partition_text (sym (append-nil (replicate count p))) ∙ run_text count p [] positive tt
-        ∙ append-nil (part_text p count)))
-        (single (part_text p count) p count item))
+        ap (λ t. items_of (cut 44 t)) (run_text count p [] positive tt ∙ append-nil (part_text p count))
+        ∙ ap items_of (cut_free 44 (part_text p count) free)
+        ∙ ap (option_and_then (λ run. onto run (Some []))) item
     behind shorter (q ∷ qs) e =
         let below : Below p (q ∷ qs) = subst (Below p) e split.below in
         let fewer : length (q ∷ qs) ≤ n = omega (arith, ap length (sym e), length-drop count (p ∷ parts), positive) in
-        subst (λ t. IsList t (replicate count p ++ q ∷ qs)) (sym (run_text count p (q ∷ qs) positive below))
-        (followed (part_text p count) (partition_text (q ∷ qs)) (q ∷ qs) p count item
-        (shorter (q ∷ qs) fewer (omega arith) (subst IsHeld e small.more_held)) below.0)
+        ap (λ t. items_of (cut 44 t)) (run_text count p (q ∷ qs) positive below)
+        ∙ ap items_of (cut_mark 44 (part_text p count) (partition_text (q ∷ qs)) free)
+        ∙ ap (option_and_then (λ run. onto run (items_of (cut 44 (partition_text (q ∷ qs)))))) item
+        ∙ ap (onto (replicate count p)) (shorter (q ∷ qs) fewer (omega arith) (subst IsWritten e small.more_written))
 
-pub read_text : (parts : List ℕ) → IsHeld parts → IsReadAs (partition_text parts) parts
-unfolding partition_text
-read_text [] h = dash
-read_text (p ∷ parts) h = listed (partition_text (p ∷ parts)) (p ∷ parts)
-    (list_text (length (p ∷ parts)) (p ∷ parts) (omega arith) (omega arith) h)
-
-pub text_only : (text parts : List ℕ) → IsReadAs text parts → IsHeld parts → text ≡ partition_text parts
-unfolding partition_text
-text_only text parts dash h = refl
-text_only text parts (listed _ _ l) h = list_only text parts l h
-
--- ---- the dash is no list
-
-number_first : (text : List ℕ) (n : ℕ) → IsNumber text n → 48 ≤ slice_index text 0
-number_first [] n h = absurd (let some = h.digits.0 in omega arith)
-number_first (d ∷ ds) n h = (digit_from_value d h.digits.1.0).0
+-- ---- such a text begins with a digit
 
 number_before : (text behind : List ℕ) (n : ℕ) → IsNumber text n → 48 ≤ slice_index (text ++ behind) 0
 number_before [] behind n h = absurd (let some = h.digits.0 in omega arith)
 number_before (d ∷ ds) behind n h = (digit_from_value d h.digits.1.0).0
 
-item_before : (text behind : List ℕ) (p m : ℕ) → IsItem text p m → 48 ≤ slice_index (text ++ behind) 0
-item_before text behind p m (once _ _ h) = number_before text behind p h
-item_before text behind p m (often base exponent _ _ h k two) =
-    subst (λ xs. 48 ≤ slice_index xs 0) (sym (append_assoc base (codes "^" ++ exponent) behind))
-    (number_before base ((codes "^" ++ exponent) ++ behind) p h)
+text_first : (p : ℕ) (parts : List ℕ) → IsWritten (p ∷ parts) → 48 ≤ slice_index (partition_text (p ∷ parts)) 0
+text_first p parts h =
+    subst (λ xs. 48 ≤ slice_index (partition_text xs) 0) (sym split.list)
+    (subst (λ t. 48 ≤ slice_index t 0) (sym (run_text count p rest positive split.below
+    ∙ append_assoc (decimal p) (cond (nat_lt 1 count) (codes "^" ++ decimal count) []) (later_text rest)))
+    (number_before (decimal p) (cond (nat_lt 1 count) (codes "^" ++ decimal count) [] ++ later_text rest) p
+    (number_text p some_part small.part)))
+  where
+    count : ℕ
+    count = lead (p ∷ parts)
 
-pub list_first : (text parts : List ℕ) → IsList text parts → 48 ≤ slice_index text 0
-list_first text parts (single _ p m item) = subst (λ xs. 48 ≤ slice_index xs 0) (append-nil text)
-    (item_before text [] p m item)
-list_first text parts (followed first rest more p m item others less) = item_before first (codes "," ++ rest) p m item
+    rest : List ℕ
+    rest = drop count (p ∷ parts)
 
--- ---- what the reader answers
+    split : Splits p count (p ∷ parts)
+    split = splits p (p ∷ parts) h.partition (omega arith)
 
-dash_only : (text q : List ℕ) → text ≡ codes "-" → IsReadAs text q → q ≡ []
-dash_only text q e dash = refl
-dash_only text q e (listed _ _ l) = let first = list_first text q l in
-    absurd (let is : slice_index text 0 ≡ 45 = ap (λ xs. slice_index xs 0) e in omega arith)
+    positive : 0 < count
+    positive = omega (arith, lead_some p parts)
 
-list_of : (text q : List ℕ) → (text ≡ codes "-" → ⊥) → IsReadAs text q → IsList text q
-list_of text q n dash = absurd (n refl)
-list_of text q n (listed _ _ l) = l
+    some_part : 0 < p
+    some_part = IsPartition-head p parts h.partition
 
-pub reads_dash : (text : List ℕ) → text ≡ codes "-" → ReadsTo (IsReadAs text) (Ok [])
-reads_dash text e = (
-  subst (λ t. IsReadAs t [])
-      (sym e) dash,
-  record { partition = IsPartition-nil; small = omega arith },
-  λ q h. dash_only text q e h,
-)
+    small : Small count p rest
+    small = small_run count p rest positive some_part (subst IsWritten split.list h)
 
-pub reads_list : (text : List ℕ) (r : Result (List ℕ) NotPartition) → (text ≡ codes "-" → ⊥) →
-    ReadsTo (IsList text) r → ReadsTo (IsReadAs text) r
-reads_list text (Ok p) n (h, held, only) = (listed text p h, held, λ q k. only q (list_of text q n k))
-reads_list text (Err Shape) n none = λ q k. none q (list_of text q n k)
-reads_list text (Err PastCapacity) n (p, h, past, only) = (p, listed text p h, past, λ q k. only q (list_of text q n k))
+digit_no_dash : (text : List ℕ) → 48 ≤ slice_index text 0 → text ≡ codes "-" → ⊥
+digit_no_dash text h e = let is : slice_index text 0 ≡ 45 = ap (λ xs. slice_index xs 0) e in omega arith
 
--- What a reader promises, clause by clause.
-pub record Parses (text : List ℕ) (r : Result (List ℕ) NotPartition) : Type 0 where
-  pub ok : IfOk r (λ p. IsReadAs text p × IsHeld p)
-  pub held : (p : List ℕ) → IsReadAs text p → degree p ≤ CAPACITY → r ≡ Ok p
-  pub past_is : r ≡ Err PastCapacity → (p : List ℕ) × IsReadAs text p × (CAPACITY < degree p)
-  pub past : (p : List ℕ) × IsReadAs text p × (CAPACITY < degree p) → r ≡ Err PastCapacity
-  pub shape_is : r ≡ Err Shape → (p : List ℕ) → IsReadAs text p → ⊥
-  pub shape : ((p : List ℕ) → IsReadAs text p → ⊥) → r ≡ Err Shape
+-- 40 is the `(`.
+inner_whole : (text : List ℕ) → 48 ≤ slice_index text 0 → inner text ≡ text
+inner_whole [] h = absurd (omega arith)
+inner_whole (c ∷ text) h =
+    cond-false (starts_with nat_eq (c ∷ text) (codes "(") && ends_with nat_eq (c ∷ text) (codes ")"))
+    (slice_range (c ∷ text) 1 (length (c ∷ text) - 1)) (c ∷ text)
+    (and_left (starts_with nat_eq (c ∷ text) (codes "(")) (ends_with nat_eq (c ∷ text) (codes ")"))
+    (and_left (nat_eq 40 c) (pointwise nat_eq [] (take 0 text)) (ne_eqb 40 c (λ e. omega arith))))
 
-pub parses : (text : List ℕ) (r : Result (List ℕ) NotPartition) → ReadsTo (IsReadAs text) r → Parses text r
-parses text (Ok p) (h, is_held, only) = record {
-  ok = (h, is_held);
-  held = λ q k small. ap Ok (sym (only q k));
-  past_is = λ e. cc;
-  past = λ over. absurd
-      (let s : degree p ≤ CAPACITY = is_held.small in
-      let same : degree over.0 ≡ degree p = ap degree (only over.0 over.1) in omega (arith, over.2));
-  shape_is = λ e. cc;
-  shape = λ none. absurd (none p h);
-}
-parses text (Err Shape) none = record {
-  ok = tt;
-  held = λ q k small. absurd (none q k);
-  past_is = λ e. cc;
-  past = λ over. absurd (none over.0 over.1);
-  shape_is = λ e. none;
-  shape = λ e. refl;
-}
-parses text (Err PastCapacity) (p, h, over, only) = record {
-  ok = tt;
-  held = λ q k small. absurd (let same : degree q ≡ degree p = ap degree (only q k) in omega arith);
-  past_is = λ e. (p, h, over);
-  past = λ e. refl;
-  shape_is = λ e. cc;
-  shape = λ none. absurd (none p h);
-}
+-- ---- what a text is read as
 
-pub canonical_ok : (text : List ℕ) (r : Result (List ℕ) NotPartition) → Parses text r → (p : List ℕ) → IsHeld p →
-    r ≡ Ok p → text ≡ partition_text p
-canonical_ok text r h p held e = text_only text p (subst (λ o. IfOk o (λ q. IsReadAs text q × IsHeld q)) e h.ok).0 held
+pub dash_read : (text : List ℕ) → text ≡ codes "-" → partition_of text ≡ Some []
+unfolding partition_of
+dash_read text e = subst (λ t. partition_of t ≡ Some []) (sym e) refl
 
-pub canonical_text : (text : List ℕ) (r : Result (List ℕ) NotPartition) → Parses text r → (p : List ℕ) → IsHeld p →
-    text ≡ partition_text p → r ≡ Ok p
-canonical_text text r h p held e = h.held p (subst (λ t. IsReadAs t p) (sym e) (read_text p held)) held.small
+pub list_read : (text : List ℕ) → (text ≡ codes "-" → ⊥) → partition_of text ≡ list_of (inner text)
+unfolding partition_of
+list_read text n = cond-false (pointwise nat_eq text (codes "-")) (Some []) (list_of (inner text))
+    (false_from_ne_true (pointwise nat_eq text (codes "-")) (λ t. n (equal_lists text (codes "-") t)))
+
+pub reads_text : (parts : List ℕ) → IsPartition parts → degree parts < 2 ^ 64 →
+    partition_of (partition_text parts) ≡ Some parts
+unfolding partition_text
+reads_text [] h small = dash_read (codes "-") refl
+reads_text (p ∷ parts) h small =
+    list_read (partition_text (p ∷ parts)) (digit_no_dash (partition_text (p ∷ parts)) first)
+    ∙ ap list_of (inner_whole (partition_text (p ∷ parts)) first)
+    ∙ ap (option_and_then (λ ps. cond (falls ps) (Some ps) None))
+    (items_text (length (p ∷ parts)) (p ∷ parts) (omega arith) (omega arith) written)
+    ∙ cond-true (falls (p ∷ parts)) (Some (p ∷ parts)) None (falls_partition (p ∷ parts) h)
+  where
+    written : IsWritten (p ∷ parts)
+    written = record { partition = h; small = small }
+
+    first : 48 ≤ slice_index (partition_text (p ∷ parts)) 0
+    first = text_first p parts written
+
+-- ---- as the contract says it
+
+pub printed : (text parts : List ℕ) → IsPartition parts → degree parts < 2 ^ 64 → text ≡ partition_text parts →
+    partition_of text ≡ Some parts
+printed text parts h small e = ap partition_of e ∙ reads_text parts h small
+
+pub canonical : (text parts : List ℕ) (r : Result (List ℕ) NotPartition) → r ≡ parsed (partition_of text) →
+    IsHeld parts → text ≡ partition_text parts → r ≡ Ok parts
+canonical text parts r is h e =
+    is ∙ ap parsed (printed text parts h.partition (let s : degree parts ≤ CAPACITY = h.small in omega arith) e)
+    ∙ cond-true (nat_le (degree parts) CAPACITY) (Ok parts) (Err PastCapacity) (le-leb (degree parts) CAPACITY h.small)

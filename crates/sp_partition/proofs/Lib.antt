@@ -9,12 +9,13 @@ pub mod Numbers
 pub mod Extending
 pub mod Marks
 pub mod ItemReading
-pub mod ListReading
-pub mod Progress
+pub mod Falls
 pub mod Canonical
+pub mod Progress
 pub mod Rising
 pub mod Ranks
 pub mod Listings
 pub mod Crossing
 pub mod Conjugates
 pub mod Involution
+pub mod Lexicographic

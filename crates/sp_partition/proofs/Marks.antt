@@ -1,12 +1,17 @@
 -- A text up to a mark, and what is behind it.
 use Rattle.std.proofs.Common.{◌≡◌, ◌≢◌, ℕ, zero, suc, ◌+◌, ◌-◌, ◌<◌, ◌≤◌, List, [], ◌∷◌, ◌++◌, take, drop, length}
-use Rattle.std.proofs.Common.{slice_index, refl, sym, ◌∙◌, ap, ap₂, arith, length-drop}
+use Rattle.std.proofs.Common.{slice_index, refl, sym, ◌∙◌, ap, ap₂, arith, length-drop, Option, Some, None, nat_eq}
+use Rattle.std.proofs.Common.{nat_le, ◌⊎◌, inl, inr, eq-eqb, ne_eqb, le-leb}
+use Rattle.std.proofs.lemmas.Bool.{lt-leb, cond-true, cond-false}
 use Rattle.std.proofs.lemmas.Grind.{common_steps}
 use Rattle.std.proofs.Math.Seq.{drop-cons}
-use Rattle.std.specs.List.{AllByRecursion}
+use Rattle.std.specs.List.{AllByRecursion, onto_first}
 use Rattle.std.specs.Str.Parse.{AllDigits}
 use Rattle.std.proofs.lemmas.List.{take-append-drop}
 use Rattle.std.proofs.lemmas.Str.Parse.{digit_from_value}
+use Rattle.sp_lists.proofs.Elements.{le_or_lt}
+use Rattle.sp_partition.specs.Reading.{cut}
+use Rattle.sp_partition.specs.Pieces.{StandsAt, rest_of}
 
 -- The mark isn't in the text.
 abbrev pub Free : ℕ → List ℕ → Type 0
@@ -26,21 +31,26 @@ digits_free_above mark [] high h = tt
 digits_free_above mark (d ∷ ds) high (h, hs) =
     (let range = digit_from_value d h in (λ e. omega arith), digits_free_above mark ds high hs)
 
--- A text is split at its first mark in one way.
-pub split_once : (mark : ℕ) (xs ys us vs : List ℕ) → Free mark xs → Free mark ys →
-    xs ++ mark ∷ us ≡ ys ++ mark ∷ vs → (xs ≡ ys) × (us ≡ vs)
-split_once mark [] [] us vs h k e = (refl, cc)
-split_once mark [] (y ∷ ys) us vs h (k, ks) e = absurd (k (cc))
-split_once mark (x ∷ xs) [] us vs (h, hs) k e = absurd (h (cc))
-split_once mark (x ∷ xs) (y ∷ ys) us vs (h, hs) (k, ks) e =
-    let head : x ≡ y = cc in
-    let rest = split_once mark xs ys us vs hs ks (cc) in (ap₂ (λ z zs. z ∷ zs) head rest.0, rest.1)
+-- ---- the pieces
 
-pub no_mark : (mark : ℕ) (xs ys us : List ℕ) → Free mark xs → xs ≡ ys ++ mark ∷ us → ⊥
-no_mark mark [] [] us h e = cc
-no_mark mark [] (y ∷ ys) us h e = cc
-no_mark mark (x ∷ xs) [] us (h, hs) e = h (cc)
-no_mark mark (x ∷ xs) (y ∷ ys) us (h, hs) e = no_mark mark xs ys us hs (cc)
+pub cut_free : (mark : ℕ) (text : List ℕ) → Free mark text → cut mark text ≡ text ∷ []
+cut_free mark [] h = refl
+cut_free mark (c ∷ text) (h, hs) =
+    cond-false (nat_eq c mark) ([] ∷ cut mark text) (onto_first c (cut mark text)) (ne_eqb c mark h)
+    ∙ ap (onto_first c) (cut_free mark text hs)
+
+pub cut_mark : (mark : ℕ) (xs ys : List ℕ) → Free mark xs → cut mark (xs ++ mark ∷ ys) ≡ xs ∷ cut mark ys
+cut_mark mark [] ys h =
+    cond-true (nat_eq mark mark) ([] ∷ cut mark ys) (onto_first mark (cut mark ys)) (eq-eqb mark mark refl)
+cut_mark mark (x ∷ xs) ys (h, hs) =
+    cond-false (nat_eq x mark) ([] ∷ cut mark (xs ++ mark ∷ ys)) (onto_first x (cut mark (xs ++ mark ∷ ys)))
+    (ne_eqb x mark h)
+    ∙ ap (onto_first x) (cut_mark mark xs ys hs)
+
+-- The pieces of what is left.
+abbrev pub pieces_left : ℕ → Option (List ℕ) → List (List ℕ)
+pieces_left mark None = []
+pieces_left mark (Some rest) = cut mark rest
 
 -- ---- where the mark stands first
 
@@ -59,9 +69,35 @@ split_there mark text end lt is =
     next : suc end ≡ end + 1
     next = omega arith
 
+pub free_before : (mark : ℕ) (text : List ℕ) (end : ℕ) → StandsAt mark text end → Free mark (take end text)
+free_before mark text end h = free_take mark text end h.before
+
 pub take_whole : (text : List ℕ) (end : ℕ) → length text ≤ end → take end text ≡ text
 take_whole text end h = grind (arith, common_steps)
 
 -- What `&text[n..]` is.
 pub rest_whole : (text : List ℕ) (n : ℕ) → take (length text - n) (drop n text) ≡ drop n text
 rest_whole text n = take_whole (drop n text) (length text - n) (simp length-drop (omega arith))
+
+pub rest_some : (text : List ℕ) (end : ℕ) → end < length text → rest_of text end ≡ Some (drop (end + 1) text)
+rest_some text end lt = cond-false (nat_le (length text) end) None (Some (drop (end + 1) text))
+    (lt-leb (length text) end lt)
+
+-- The first piece ends at the first mark.
+pub first_piece : (mark : ℕ) (text : List ℕ) (end : ℕ) → StandsAt mark text end →
+    cut mark text ≡ take end text ∷ pieces_left mark (rest_of text end)
+first_piece mark text end h = settle (le_or_lt (length text) end)
+  where
+    free : Free mark (take end text)
+    free = free_before mark text end h
+
+    settle : (length text ≤ end) ⊎ (end < length text) →
+        cut mark text ≡ take end text ∷ pieces_left mark (rest_of text end)
+    settle (inl le) =
+        ap (cut mark) (sym (take_whole text end le)) ∙ cut_free mark (take end text) free
+        ∙ ap (λ o. take end text ∷ pieces_left mark o)
+        (sym (cond-true (nat_le (length text) end) None (Some (drop (end + 1) text)) (le-leb (length text) end le)))
+    settle (inr lt) =
+        ap (cut mark) (split_there mark text end lt (h.there lt))
+        ∙ cut_mark mark (take end text) (drop (end + 1) text) free
+        ∙ ap (λ o. take end text ∷ pieces_left mark o) (sym (rest_some text end lt))

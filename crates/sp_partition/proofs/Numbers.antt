@@ -10,8 +10,7 @@ use Rattle.std.proofs.lemmas.Int.Digits.{digits_value-lt, digits_value_more}
 use Rattle.std.proofs.lemmas.Str.{digit_value_digit}
 use Rattle.std.proofs.lemmas.Str.Parse.{digit_from_value, digit_at}
 use Rattle.sp_lists.proofs.Elements.{le_or_lt}
-use Rattle.sp_partition.specs.Grammar.{IsNumber}
-use Rattle.sp_partition.specs.Pieces.{DigitsAt}
+use Rattle.sp_partition.specs.Pieces.{IsNumber, DigitsAt}
 
 -- The digits so far weigh the more the more digits follow.
 after_is : (n : ℕ) (ds : List ℕ) → digits_value_after 10 n ds ≡ n * 10 ^ length ds + digits_value 10 ds

@@ -1,34 +1,29 @@
 -- A list of items, read so far.
-use Rattle.std.proofs.Common.{◌≡◌, ℕ, zero, suc, ◌+◌, ◌*◌, ◌<◌, ◌≤◌, min, cond, List, [], ◌∷◌, ◌++◌, take, drop}
-use Rattle.std.proofs.Common.{length, replicate, slice_index, refl, sym, ◌∙◌, ap, ap₂, subst, arith, append_assoc}
+use Rattle.std.proofs.Common.{◌≡◌, ℕ, zero, suc, ◌+◌, ◌*◌, ◌<◌, ◌≤◌, min, cond, List, [], ◌∷◌, ◌++◌, take}
+use Rattle.std.proofs.Common.{replicate, slice_index, refl, sym, ◌∙◌, ap, ap₂, subst, arith, append_assoc}
 use Rattle.std.proofs.Common.{append-nil, ◌⊎◌, inl, inr, Option, Some, None, le-leb, mul-le-mul_left}
 use Rattle.std.proofs.Common.{mul-le-mul_right}
-use Rattle.std.proofs.lemmas.Bool.{lt-leb}
+use Rattle.std.proofs.Common.{Bool, true, false, nat_le, Ok, Err}
+use Rattle.std.proofs.lemmas.Bool.{lt-leb, cond-true, cond-false, false_from_ne_true}
 use denote.Bor.{Bor}
-use Rattle.std.specs.Option.{IfSome, SomeIff, option_copied, ok_or}
+use Rattle.std.specs.Option.{IfSome, SomeIff, option_copied, option_map, option_and_then, ok_or}
 use Rattle.std.specs.Str.Parse.{digits_value}
 use Rattle.sp_defs.specs.Partition.{degree, IsPartition}
 use Rattle.sp_lists.proofs.Elements.{le_or_lt}
 use Rattle.sp_shapes.proofs.Diagram.{IsPartition-tail, IsPartition-head}
 use Rattle.sp_shapes.proofs.Listing.{IsPartition-nil, IsPartition-cons}
-use Rattle.sp_partition.specs.Grammar.{IsNumber, IsItem, IsList, single, followed}
-use Rattle.sp_partition.specs.Pieces.{StandsAt, IsItemOf, Adds, ReadsTo, fitting, rest_of}
+use Rattle.sp_partition.specs.Reading.{cut, item_of, items_of, falls, list_of, parsed}
+use Rattle.sp_partition.specs.Pieces.{IsNumber, StandsAt, IsItemOf, Adds, fitting, rest_of}
 use Rattle.sp_partition.specs.declared.partition.NotPartition.TheVariants.{PastCapacity}
 use Rattle.sp_partition.specs.declared.TheConstants.{CAPACITY}
 use Rattle.sp_partition.proofs.Extending.{degree-run}
-use Rattle.sp_partition.proofs.ItemReading.{free_before}
-use Rattle.sp_partition.proofs.ListReading.{item_some, only_item, first_item, only_parts, first_parts}
-use Rattle.sp_partition.proofs.Marks.{Free, split_there, take_whole}
+use Rattle.sp_partition.proofs.Falls.{falls_partition, falls_step}
+use Rattle.sp_partition.proofs.Marks.{pieces_left, first_piece}
+use Rattle.sp_partition.proofs.Numbers.{number_positive}
 
--- The parts are less than the last one so far, whose digits these are.
-abbrev pub Under : Option (List ℕ) → List ℕ → Type 0
-Under None more = Unit {0}
-Under (Some digits) more = slice_index more 0 < digits_value 10 digits
-
--- The parts that what is left of the text adds.
-abbrev pub Continues : Option (List ℕ) → Option (List ℕ) → List ℕ → Type 0
-Continues last None more = more ≡ []
-Continues last (Some rest) more = IsList rest more × Under last more
+-- These parts before others, where there are any.
+abbrev pub onto : List ℕ → Option (List ℕ) → Option (List ℕ)
+onto parts others = option_map (λ more. parts ++ more) others
 
 -- The last of the parts.
 abbrev pub Ends : Option (List ℕ) → List ℕ → Type 0
@@ -36,16 +31,10 @@ Ends None parts = parts ≡ []
 Ends (Some digits) parts = IsNumber digits (digits_value 10 digits) × (before : List ℕ) ×
     (parts ≡ before ++ digits_value 10 digits ∷ [])
 
-pub record Reads (last rest : Option (List ℕ)) (parts whole : List ℕ) : Type 0 where
-  pub more : List ℕ
-  pub continues : Continues last rest more
-  pub whole_is : whole ≡ parts ++ more
-
 -- The text begins with these parts, `rest` is left, and `held` is what there is room for.
 pub record Progress (text : List ℕ) (held last rest : Option (List ℕ)) : Type 0 where
   pub parts : List ℕ
-  pub sound : (more : List ℕ) → Continues last rest more → IsList text (parts ++ more)
-  pub complete : (whole : List ℕ) → IsList text whole → Reads last rest parts whole
+  pub items : items_of (cut 44 text) ≡ onto parts (items_of (pieces_left 44 rest))
   pub partition : IsPartition parts
   pub ends : Ends last parts
   pub held_is : held ≡ fitting parts
@@ -53,14 +42,17 @@ pub record Progress (text : List ℕ) (held last rest : Option (List ℕ)) : Typ
 pub begun : (text : List ℕ) → Progress text (Some []) None (Some text)
 begun text = record {
   parts = [];
-  sound = λ more h. h.0;
-  complete = λ whole h. record { more = whole; continues = (h, tt); whole_is = refl };
+  items = same (items_of (cut 44 text));
   partition = IsPartition-nil;
   ends = refl;
   held_is = refl;
 }
+  where
+    same : (o : Option (List ℕ)) → o ≡ onto [] o
+    same None = refl
+    same (Some more) = refl
 
--- ---- a partition goes on with lesser parts
+-- ---- a partition goes on with parts that are not greater
 
 run_partition : (m p : ℕ) → 0 < p → IsPartition (replicate m p)
 run_partition zero p hp = IsPartition-nil
@@ -70,7 +62,7 @@ run_partition (suc m) p hp = IsPartition-cons p (replicate m p) hp (low m) (run_
     low zero = omega arith
     low (suc m) = omega arith
 
-pub run_behind : (before : List ℕ) (q m p : ℕ) → IsPartition (before ++ q ∷ []) → 0 < p → p < q →
+pub run_behind : (before : List ℕ) (q m p : ℕ) → IsPartition (before ++ q ∷ []) → 0 < p → p ≤ q →
     IsPartition ((before ++ q ∷ []) ++ replicate m p)
 run_behind [] q m p h hp lt = IsPartition-cons q (replicate m p) (IsPartition-head q [] h) (low m)
     (run_partition m p hp)
@@ -91,7 +83,7 @@ run_behind (x ∷ before) q m p h hp lt =
 -- The part may stand behind the last one.
 abbrev pub Follows : Option (List ℕ) → ℕ → Type 0
 Follows None p = Unit {0}
-Follows (Some digits) p = p < digits_value 10 digits
+Follows (Some digits) p = p ≤ digits_value 10 digits
 
 pub longer_partition : (last : Option (List ℕ)) (parts : List ℕ) (p m : ℕ) → Ends last parts → IsPartition parts →
     0 < p → Follows last p → IsPartition (parts ++ replicate m p)
@@ -109,12 +101,6 @@ last_of_run parts (suc m) p h =
     turned : (m : ℕ) → replicate (suc m) p ≡ replicate m p ++ p ∷ []
     turned zero = refl
     turned (suc m) = ap (λ xs. p ∷ xs) (turned m)
-
-under_run : (last : Option (List ℕ)) (m p : ℕ) (more : List ℕ) → 0 < m → Follows last p →
-    Under last (replicate m p ++ more)
-under_run None m p more h follows = tt
-under_run (Some digits) zero p more h follows = absurd (omega arith)
-under_run (Some digits) (suc m) p more h follows = follows
 
 -- ---- what is held
 
@@ -188,79 +174,66 @@ may_extend parts last m p times ends h hm hp follows is small =
 
 -- ---- one item more
 
-follows_run : (last : Option (List ℕ)) (m p : ℕ) (more : List ℕ) → 0 < m → Under last (replicate m p ++ more) →
-    Follows last p
-follows_run None m p more h under = tt
-follows_run (Some digits) zero p more h under = absurd (omega arith)
-follows_run (Some digits) (suc m) p more h under = under
+-- The first item of what is left: the others stand behind it.
+first_item : (items part : List ℕ) (end times : ℕ) → StandsAt 44 items end →
+    (item : IsItemOf (take end items) part times) →
+    items_of (cut 44 items)
+    ≡ onto (replicate item.count (digits_value 10 part)) (items_of (pieces_left 44 (rest_of items end)))
+first_item items part end times stands item =
+    ap items_of (first_piece 44 items end stands)
+    ∙ ap (option_and_then (λ parts. onto parts (items_of (pieces_left 44 (rest_of items end))))) item.item
 
--- The first item of what is left: it is all, or a comma stands behind it.
-pub data Front (items : List ℕ) (end : ℕ) : Type 0 where
-  whole : take end items ≡ items → rest_of items end ≡ None → Front items end
-  before_comma : items ≡ take end items ++ 44 ∷ drop (end + 1) items →
-      rest_of items end ≡ Some (drop (end + 1) items) → Front items end
-
-front : (items : List ℕ) (end : ℕ) → StandsAt 44 items end → Front items end
-front items end h = settle (le_or_lt (length items) end)
-  where
-    settle : (length items ≤ end) ⊎ (end < length items) → Front items end
-    settle (inl le) = whole (take_whole items end le)
-        (ap (λ b. cond b None (Some (drop (end + 1) items))) (le-leb (length items) end le))
-    settle (inr lt) = before_comma (split_there 44 items end lt (h.there lt))
-        (ap (λ b. cond b None (Some (drop (end + 1) items))) (lt-leb (length items) end lt))
+list_none : (text : List ℕ) → items_of (cut 44 text) ≡ None → list_of text ≡ None
+list_none text e = ap (option_and_then (λ parts. cond (falls parts) (Some parts) None)) e
 
 pub no_item : (text items : List ℕ) (held last : Option (List ℕ)) (end : ℕ) → Progress text held last (Some items) →
-    StandsAt 44 items end →
-    ((p m : ℕ) → IsItem (take end items) p m → ⊥) → (q : List ℕ) → IsList text q → ⊥
-no_item text items held last end so_far stands none q h =
-    let left = so_far.complete q h in settle left.more left.continues.0 (front items end stands)
-  where
-    free : Free 44 (take end items)
-    free = free_before 44 items end stands
+    StandsAt 44 items end → item_of (cut 94 (take end items)) ≡ None → list_of text ≡ None
+no_item text items held last end so_far stands none =
+    list_none text (so_far.items ∙ ap (onto so_far.parts)
+    (ap items_of (first_piece 44 items end stands)
+    ∙ ap (option_and_then (λ parts. onto parts (items_of (pieces_left 44 (rest_of items end))))) none))
 
-    settle : (more : List ℕ) → IsList items more → Front items end → ⊥
-    settle more l (whole e _) =
-        let only = only_item items more (subst (Free 44) e free) l in
-        none only.part only.count (subst (λ t. IsItem t only.part only.count) (sym e) only.item)
-    settle more l (before_comma e _) =
-        let first = first_item items (take end items) (drop (end + 1) items) more free e l in
-        none first.part first.count first.item
-
--- The parts that are left begin with those of a known item.
-begins : (items more : List ℕ) (end p m : ℕ) → StandsAt 44 items end → IsItem (take end items) p m → IsList items more →
-    (others : List ℕ) × (more ≡ replicate m p ++ others)
-begins items more end p m stands item l = settle (front items end stands)
-  where
-    free : Free 44 (take end items)
-    free = free_before 44 items end stands
-
-    settle : Front items end → (others : List ℕ) × (more ≡ replicate m p ++ others)
-    settle (whole e _) = (
-      [],
-      only_parts items more p m (subst (Free 44) e free) (subst (λ t. IsItem t p m) e item) l
-          ∙ sym (append-nil (replicate m p)),
-    )
-    settle (before_comma e _) =
-        let behind = first_parts items (take end items) (drop (end + 1) items) more p m free e item l in
-        (behind.more, behind.parts_are)
+-- A greater part behind the last one.
+rises : (last : Option (List ℕ)) (parts more : List ℕ) (p m : ℕ) → Ends last parts → 0 < m → (Follows last p → ⊥) →
+    falls (parts ++ (replicate m p ++ more)) ≡ false
+rises None parts more p m ends some over = absurd (over tt)
+rises (Some digits) parts more p zero ends some over = absurd (omega arith)
+rises (Some digits) parts more p (suc m) ends some over =
+    false_from_ne_true (falls (parts ++ (replicate (suc m) p ++ more))) (λ t.
+    over (falls_step ends.1 (digits_value 10 digits) p (replicate m p ++ more)
+    (subst (λ xs. falls (xs ++ p ∷ (replicate m p ++ more)) ≡ true) ends.2 t)))
 
 pub not_under : (text items part : List ℕ) (held last : Option (List ℕ)) (end times : ℕ) →
     Progress text held last (Some items) → StandsAt 44 items end →
-    IsItemOf (take end items) part times → (Follows last (digits_value 10 part) → ⊥) → (q : List ℕ) → IsList text q → ⊥
-not_under text items part held last end times so_far stands item over q h =
-    let left = so_far.complete q h in
-    let first = begins items left.more end (digits_value 10 part) item.count stands item.item left.continues.0 in
-    over (follows_run last item.count (digits_value 10 part) first.0
-    (item_some (take end items) _ item.count item.item).1
-    (subst (Under last) first.1 left.continues.1))
+    IsItemOf (take end items) part times → (Follows last (digits_value 10 part) → ⊥) → list_of text ≡ None
+not_under text items part held last end times so_far stands item over =
+    ap (option_and_then (λ parts. cond (falls parts) (Some parts) None))
+    (so_far.items ∙ ap (onto so_far.parts) (first_item items part end times stands item))
+    ∙ settle (items_of (pieces_left 44 (rest_of items end)))
+  where
+    run : List ℕ
+    run = replicate item.count (digits_value 10 part)
+
+    settle : (o : Option (List ℕ)) →
+        option_and_then (λ parts. cond (falls parts) (Some parts) None) (onto so_far.parts (onto run o)) ≡ None
+    settle None = refl
+    settle (Some more) = cond-false (falls (so_far.parts ++ (run ++ more))) (Some (so_far.parts ++ (run ++ more))) None
+        (rises last so_far.parts more (digits_value 10 part) item.count so_far.ends item.some over)
 
 pub advanced : (text items part : List ℕ) (held last longer : Option (List ℕ)) (end times : ℕ) →
     Progress text held last (Some items) → StandsAt 44 items end →
     IsItemOf (take end items) part times → Follows last (digits_value 10 part) →
     Adds held (min (digits_value 10 part) 255) times longer →
     Progress text longer (Some part) (rest_of items end)
-advanced text items part held last longer end times so_far stands item follows extended = settle
-    (front items end stands)
+advanced text items part held last longer end times so_far stands item follows extended = record {
+  parts = so_far.parts ++ replicate m p;
+  items = so_far.items ∙ ap (onto so_far.parts) (first_item items part end times stands item)
+      ∙ joined (items_of (pieces_left 44 (rest_of items end)));
+  partition = longer_partition last so_far.parts p m so_far.ends so_far.partition positive follows;
+  ends = let last_is = last_of_run so_far.parts m p item.some in (item.number, last_is.0, last_is.1);
+  held_is = extended_fits so_far.parts m p held longer item.some positive so_far.held_is
+      (subst (λ t. Adds held (min p 255) t longer) item.times_is extended);
+}
   where
     p : ℕ
     p = digits_value 10 part
@@ -268,76 +241,12 @@ advanced text items part held last longer end times so_far stands item follows e
     m : ℕ
     m = item.count
 
-    some : (0 < p) × (0 < m)
-    some = item_some (take end items) p m item.item
+    positive : 0 < p
+    positive = number_positive part p item.number
 
-    parts : List ℕ
-    parts = so_far.parts ++ replicate m p
-
-    free : Free 44 (take end items)
-    free = free_before 44 items end stands
-
-    built : (rest : Option (List ℕ)) →
-        ((more : List ℕ) → Continues (Some part) rest more → IsList text (parts ++ more)) →
-        ((whole : List ℕ) → IsList text whole → Reads (Some part) rest parts whole) →
-        Progress text longer (Some part) rest
-    built rest sound complete = record {
-      parts = parts;
-      sound = sound;
-      complete = complete;
-      partition = longer_partition last so_far.parts p m so_far.ends so_far.partition some.0 follows;
-      ends = let last_is = last_of_run so_far.parts m p some.1 in (item.number, last_is.0, last_is.1);
-      held_is = extended_fits so_far.parts m p held longer some.1 some.0 so_far.held_is
-          (subst (λ t. Adds held (min p 255) t longer) item.times_is extended);
-    }
-
-    settle : Front items end → Progress text longer (Some part) (rest_of items end)
-    settle (whole e none) = subst (Progress text longer (Some part)) (sym none) (built None sound complete)
-      where
-        sound : (more : List ℕ) → more ≡ [] → IsList text (parts ++ more)
-        sound more is =
-            subst (IsList text) (sym (append-nil parts) ∙ ap (λ xs. parts ++ xs) (sym is))
-            (so_far.sound (replicate m p) (
-              single items p m (subst (λ t. IsItem t p m) e item.item),
-              subst (Under last) (append-nil (replicate m p)) (under_run last m p [] some.1 follows),
-            ))
-
-        complete : (q : List ℕ) → IsList text q → Reads (Some part) None parts q
-        complete q h =
-            let left = so_far.complete q h in
-            record {
-              more = [];
-              continues = refl;
-              whole_is = left.whole_is
-                  ∙ ap (λ xs. so_far.parts ++ xs)
-                  (only_parts items left.more p m (subst (Free 44) e free)
-                  (subst (λ t. IsItem t p m) e item.item) left.continues.0)
-                  ∙ sym (append-nil parts);
-            }
-    settle (before_comma e rest) = subst (Progress text longer (Some part)) (sym rest)
-        (built (Some (drop (end + 1) items)) sound complete)
-      where
-        sound : (more : List ℕ) → IsList (drop (end + 1) items) more × (slice_index more 0 < p) →
-            IsList text (parts ++ more)
-        sound more (l, less) =
-            subst (IsList text) (sym (append_assoc so_far.parts (replicate m p) more))
-            (so_far.sound (replicate m p ++ more) (
-              subst (λ t. IsList t (replicate m p ++ more)) (sym e)
-                  (followed (take end items) (drop (end + 1) items) more p m item.item l less),
-              under_run last m p more some.1 follows,
-            ))
-
-        complete : (q : List ℕ) → IsList text q → Reads (Some part) (Some (drop (end + 1) items)) parts q
-        complete q h =
-            let left = so_far.complete q h in
-            let behind = first_parts items (take end items)
-            (drop (end + 1) items) left.more p m free e item.item left.continues.0 in
-            record {
-              more = behind.more;
-              continues = (behind.others, behind.less);
-              whole_is = left.whole_is ∙ ap (λ xs. so_far.parts ++ xs) behind.parts_are
-                  ∙ sym (append_assoc so_far.parts (replicate m p) behind.more);
-            }
+    joined : (o : Option (List ℕ)) → onto so_far.parts (onto (replicate m p) o) ≡ onto (so_far.parts ++ replicate m p) o
+    joined None = refl
+    joined (Some more) = ap Some (sym (append_assoc so_far.parts (replicate m p) more))
 
 -- ---- as the code says it
 
@@ -346,13 +255,13 @@ pub left_at : {text : List ℕ} {held last : Option (List ℕ)} {rest left : Opt
     Progress text held last (option_copied rest) → Progress text held last (option_copied left)
 left_at {text} {held} {last} e h = subst (λ r. Progress text held last (option_copied r)) e h
 
-pub to_follows : (last : Option (Bor (List ℕ))) (p : ℕ) → IfSome last (λ digits. p < digits_value 10 digits.now) →
+pub to_follows : (last : Option (Bor (List ℕ))) (p : ℕ) → IfSome last (λ digits. p ≤ digits_value 10 digits.now) →
     Follows (option_copied last) p
 to_follows None p h = tt
 to_follows (Some digits) p h = h
 
 pub from_follows : (last : Option (Bor (List ℕ))) (p : ℕ) → Follows (option_copied last) p →
-    IfSome last (λ digits. p < digits_value 10 digits.now)
+    IfSome last (λ digits. p ≤ digits_value 10 digits.now)
 from_follows None p h = h
 from_follows (Some digits) p h = h
 
@@ -370,32 +279,28 @@ may_extend_held text items part held last end times so_far item follows = settle
         (λ p. degree p + times * min (digits_value 10 part) 255 ≤ CAPACITY →
         IsPartition (p ++ replicate times (min (digits_value 10 part) 255)))
 
-    some : (0 < digits_value 10 part) × (0 < item.count)
-    some = item_some (take end items) (digits_value 10 part) item.count item.item
+    positive : 0 < digits_value 10 part
+    positive = number_positive part (digits_value 10 part) item.number
 
     settle : (degree so_far.parts ≤ CAPACITY) ⊎ (CAPACITY < degree so_far.parts) → May held
     settle (inl small) = subst May (sym (so_far.held_is ∙ fitting_some so_far.parts small))
         (may_extend so_far.parts last item.count
-        (digits_value 10 part) times so_far.ends so_far.partition some.1 some.0 follows item.times_is)
+        (digits_value 10 part) times so_far.ends so_far.partition item.some positive follows item.times_is)
     settle (inr past) = subst May (sym (so_far.held_is ∙ fitting_none so_far.parts past)) tt
 
 -- The whole text is read.
 pub finished : (text : List ℕ) (held last : Option (List ℕ)) → Progress text held last None →
-    ReadsTo (IsList text) (ok_or held PastCapacity)
-finished text held last so_far = settle (le_or_lt (degree so_far.parts) CAPACITY)
+    ok_or held PastCapacity ≡ parsed (list_of text)
+finished text held last so_far =
+    ap (λ o. ok_or o PastCapacity) so_far.held_is ∙ settle (nat_le (degree so_far.parts) CAPACITY)
+    ∙ ap parsed (sym read)
   where
-    read : IsList text so_far.parts
-    read = subst (IsList text) (append-nil so_far.parts) (so_far.sound [] refl)
+    read : list_of text ≡ Some so_far.parts
+    read = ap (option_and_then (λ parts. cond (falls parts) (Some parts) None))
+        (so_far.items ∙ ap Some (append-nil so_far.parts))
+        ∙ cond-true (falls so_far.parts) (Some so_far.parts) None (falls_partition so_far.parts so_far.partition)
 
-    only : (q : List ℕ) → IsList text q → q ≡ so_far.parts
-    only q h = let left = so_far.complete q h in left.whole_is ∙ ap (λ xs. so_far.parts ++ xs) left.continues
-        ∙ append-nil so_far.parts
-
-    settle : (degree so_far.parts ≤ CAPACITY) ⊎ (CAPACITY < degree so_far.parts) →
-        ReadsTo (IsList text) (ok_or held PastCapacity)
-    settle (inl small) = subst (λ h. ReadsTo (IsList text) (ok_or h PastCapacity))
-        (sym (so_far.held_is ∙ fitting_some so_far.parts small))
-        (read, record { partition = so_far.partition; small = small }, only)
-    settle (inr past) = subst (λ h. ReadsTo (IsList text) (ok_or h PastCapacity))
-        (sym (so_far.held_is ∙ fitting_none so_far.parts past))
-        (so_far.parts, read, past, only)
+    settle : (b : Bool) →
+        ok_or (cond b (Some so_far.parts) None) PastCapacity ≡ cond b (Ok so_far.parts) (Err PastCapacity)
+    settle true = refl
+    settle false = refl

@@ -2,6 +2,6 @@ pub mod Held
 pub mod Padded
 pub mod OrderLaws
 pub mod Runs
-pub mod Grammar
+pub mod Reading
 pub mod Pieces
 pub mod Nodes

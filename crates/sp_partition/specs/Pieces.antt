@@ -1,15 +1,17 @@
 -- The pieces of a text, as they are read.
 use Rattle.std.specs.Prelude.{ℕ, ◌≡◌, ◌≢◌, ◌+◌, ◌*◌, ◌++◌, replicate, drop, ◌<◌, ◌≤◌, min, cond, nat_le, List, length}
-use Rattle.std.specs.Prelude.{slice_index, Option}
-use Rattle.std.specs.Prelude.{Some, None, Result, Ok, Err}
-use Rattle.std.specs.Str.Parse.{digits_value}
+use Rattle.std.specs.Prelude.{slice_index, Option, Some, None}
+use Rattle.std.specs.Str.Parse.{IsNumeral, digits_value}
 use Rattle.std.specs.Option.{MatchOption, SomeIff}
 use Rattle.sp_defs.specs.Partition.{degree, IsPartition}
 use Rattle.sp_partition.specs.declared.TheConstants.{CAPACITY}
-use Rattle.sp_partition.specs.declared.partition.NotPartition.{NotPartition}
-use Rattle.sp_partition.specs.declared.partition.NotPartition.TheVariants.{Shape, PastCapacity}
-use Rattle.sp_partition.specs.Held.{IsHeld}
-use Rattle.sp_partition.specs.Grammar.{IsNumber, IsItem, IsReadAs}
+use Rattle.sp_partition.specs.Reading.{cut, item_of}
+
+-- The digits of n, a number of at least 1, without leading zeros.
+pub record IsNumber (text : List ℕ) (n : ℕ) : Type 0 where
+  pub digits : IsNumeral 10 text
+  pub first : slice_index text 0 ≢ 48
+  pub value : digits_value 10 text ≡ n
 
 -- The mark stands at `end` first, or nowhere, where that is the length.
 pub record StandsAt (mark : ℕ) (text : List ℕ) (end : ℕ) : Type 0 where
@@ -25,7 +27,8 @@ rest_of text end = cond (nat_le (length text) end) None (Some (drop (end + 1) te
 pub record IsItemOf (text part : List ℕ) (times : ℕ) : Type 0 where
   pub number : IsNumber part (digits_value 10 part)
   pub count : ℕ
-  pub item : IsItem text (digits_value 10 part) count
+  pub some : 0 < count
+  pub item : item_of (cut 94 text) ≡ Some (replicate count (digits_value 10 part))
   pub times_is : times ≡ min count 255
 
 -- Each byte is a decimal digit.
@@ -45,13 +48,3 @@ Adds held part times longer =
 -- The parts, where there is room for them.
 abbrev pub fitting : List ℕ → Option (List ℕ)
 fitting parts = cond (nat_le (degree parts) CAPACITY) (Some parts) None
-
--- The text is read as a partition that there is no room for.
-abbrev pub IsReadPast : List ℕ → Type 0
-IsReadPast text = (p : List ℕ) × IsReadAs text p × (CAPACITY < degree p)
-
--- What comes of reading a text that is known to be read as some lists of parts.
-abbrev pub ReadsTo : (List ℕ → Type 0) → Result (List ℕ) NotPartition → Type 0
-ReadsTo Reads (Ok p) = Reads p × IsHeld p × ((q : List ℕ) → Reads q → q ≡ p)
-ReadsTo Reads (Err Shape) = (q : List ℕ) → Reads q → ⊥
-ReadsTo Reads (Err PastCapacity) = (p : List ℕ) × Reads p × (CAPACITY < degree p) × ((q : List ℕ) → Reads q → q ≡ p)

@@ -1,14 +1,18 @@
 // Of two partitions of one degree, one dominates where each of its initial sums is at least the other's.
-ghost use Rattle.std.specs.Prelude.{◌≡◌, ◌↔◌, ◌≤◌, sum, IsTrue};
-ghost use Rattle.sp_defs.specs.Partition.{degree as degree_of, Dominates};
+ghost use Rattle.std.specs.Prelude.{◌≡◌, ◌≢◌, ◌↔◌, ◌≤◌, sum, IsTrue};
+ghost use Rattle.std.specs.declared.cmp.Ordering.TheVariants.{Less};
+ghost use Rattle.sp_defs.specs.Partition.{degree as degree_of, Dominates, compare};
 
 use crate::{CAPACITY, Partition};
 
 impl Partition {
     /// Whether each initial sum of the parts is at least that of `other`, which is of the same degree.
+    ///
+    /// Then `other` is not the later one in the lexicographic order.
     pub fn dominates(&self, other: &Partition) -> bool
         requires { degree_of self.now ≡ degree_of other.now }
-        ensures { IsTrue result ↔ Dominates self.now other.now }
+        ensures sums { IsTrue result ↔ Dominates self.now other.now }
+        ensures order { IsTrue result → compare self.now other.now ≢ Less }
     {
         sums_stay_above(self.parts(), other.parts())
     }

@@ -1,12 +1,12 @@
-// Reads the canonical text of a partition.
-ghost use Rattle.std.specs.Prelude.{◌≡◌, ◌↔◌, ℕ, ◌+◌, ◌*◌, ◌<◌, ◌≤◌, List, length, min};
+// Reads the text of a partition.
+ghost use Rattle.std.specs.Prelude.{◌≡◌, ◌↔◌, ℕ, ◌+◌, ◌*◌, ◌<◌, ◌≤◌, ◌^◌, List, length, min};
 ghost use Rattle.std.specs.Prelude.{IfOk, IfSome, IsNone, IsTrue};
 ghost use Rattle.std.specs.Option.{option_copied};
 ghost use Rattle.std.specs.Str.Parse.{digits_value};
-ghost use Rattle.sp_defs.specs.Partition.{degree as degree_of};
+ghost use Rattle.sp_defs.specs.Partition.{degree as degree_of, IsPartition};
 ghost use Rattle.sp_defs.specs.Text.{partition_text};
-ghost use Rattle.sp_partition.specs.Grammar.{IsNumber, IsItem, IsList, IsReadAs};
-ghost use Rattle.sp_partition.specs.Pieces.{StandsAt, IsItemOf, IsReadPast, DigitsAt, MayAdd, Adds, ReadsTo, rest_of};
+ghost use Rattle.sp_partition.specs.Reading.{partition_of, list_of, item_of, cut, inner as inner_of, parsed};
+ghost use Rattle.sp_partition.specs.Pieces.{IsNumber, StandsAt, IsItemOf, DigitsAt, MayAdd, Adds, rest_of};
 ghost use Rattle.sp_partition.specs.Held.{IsHeld};
 
 use crate::{CAPACITY, NotPartition, Partition};
@@ -19,31 +19,41 @@ struct Item<'a> {
 }
 
 impl Partition {
-    /// The partition of this canonical text.
+    /// The partition that the text stands for.
     ///
-    /// `Shape` where the text is that of no partition, `PastCapacity` where it is that of one past `CAPACITY`.
+    /// The text is `-`, or a list, or a list between `(` and `)`. A list is items with commas between, without spaces.
+    /// An item is a part, or a part, `^` and how often it stands there. Each number is of at least 1, of any length,
+    /// and without leading zeros. The parts decrease weakly.
+    ///
+    /// `Shape` where the text stands for no partition, `PastCapacity` where it stands for one past `CAPACITY`.
     pub fn parse(text: &[u8]) -> Result<Partition, NotPartition>
-        ensures ok { IfOk result (λ p. IsReadAs text.now p × IsHeld p) }
-        ensures held { (p : List ℕ) → IsReadAs text.now p → degree_of p ≤ CAPACITY → result ≡ Ok p }
-        ensures past { (result ≡ Err NotPartition.PastCapacity) ↔ IsReadPast text.now }
-        ensures shape { (result ≡ Err NotPartition.Shape) ↔ ((p : List ℕ) → ¬ IsReadAs text.now p) }
-        ensures canonical { (p : List ℕ) → IsHeld p → (result ≡ Ok p) ↔ (text.now ≡ partition_text p) }
+        ensures reads { result ≡ parsed (partition_of text.now) }
+        ensures held { IfOk result IsHeld }
+        ensures partition { (p : List ℕ) → partition_of text.now ≡ Some p → IsPartition p }
+        ensures canonical { (p : List ℕ) → IsHeld p → text.now ≡ partition_text p → result ≡ Ok p }
+        ensures printed { (p : List ℕ) → IsPartition p → degree_of p < 2 ^ 64 → text.now ≡ partition_text p →
+            partition_of text.now ≡ Some p }
     {
-        read(text)
+        if text == b"-".as_slice() {
+            return Ok(Partition::empty());
+        }
+        read_list(inner(text))
     }
 }
 
-fn read(text: &[u8]) -> Result<Partition, NotPartition>
-    ensures { ReadsTo (IsReadAs text.now) result }
+// The text between its parentheses, where it has both.
+fn inner(text: &[u8]) -> &[u8]
+    ensures { result.now ≡ inner_of text.now }
 {
-    if text == b"-".as_slice() {
-        return Ok(Partition::empty());
+    if text.starts_with(b"(") && text.ends_with(b")") {
+        &text[1..text.len() - 1]
+    } else {
+        text
     }
-    read_list(text)
 }
 
 fn read_list(text: &[u8]) -> Result<Partition, NotPartition>
-    ensures { ReadsTo (IsList text.now) result }
+    ensures { result ≡ parsed (list_of text.now) }
 {
     let mut held = Some(Partition::empty());
     let mut last = None;
@@ -76,16 +86,16 @@ fn extended(held: Option<Partition>, item: Item) -> Option<Partition>
 fn follows(last: Option<&[u8]>, part: &[u8]) -> bool
     requires part { IsNumber part.now (digits_value 10 part.now) }
     requires last { IfSome last (λ digits. IsNumber digits.now (digits_value 10 digits.now)) }
-    ensures { IsTrue result ↔ IfSome last.entry (λ digits. digits_value 10 part.now < digits_value 10 digits.now) }
+    ensures { IsTrue result ↔ IfSome last.entry (λ digits. digits_value 10 part.now ≤ digits_value 10 digits.now) }
 {
     match last {
         None => true,
-        Some(digits) => is_less(part, digits),
+        Some(digits) => !is_less(digits, part),
     }
 }
 
 fn read_item(text: &[u8]) -> Option<Item<'_>>
-    ensures none { IsNone result → (p m : ℕ) → ¬ IsItem text.now p m }
+    ensures none { IsNone result → item_of (cut 94 text.now) ≡ None }
     ensures item { IfSome result (λ item. IsItemOf text.now item.part.now item.times) }
 {
     let end = place(text, b'^');
@@ -100,11 +110,10 @@ fn read_item(text: &[u8]) -> Option<Item<'_>>
     if !is_number(exponent) {
         return None;
     }
-    let times = value(exponent);
-    if times < 2 {
-        return None;
-    }
-    Some(Item { part, times })
+    Some(Item {
+        part,
+        times: value(exponent),
+    })
 }
 
 // Where the mark stands first, or the length where it doesn't.

@@ -18,10 +18,20 @@ fn prints_what_it_reads(rt: HostRuntime) -> Result<(), Fail> {
 }
 
 #[test]
+fn reads_other_texts(rt: HostRuntime) -> Result<(), Fail> {
+    for text in ["3,1,1", "3,1^1,1", "(3,1,1)", "(3,1^2)", "3^1,1^2"] {
+        assert_eq!(rt; read(text.as_bytes())?, read(b"3,1^2")?, "{text}");
+    }
+    assert_eq!(rt; read(b"(5)")?.parts(), [5].as_slice());
+    assert_eq!(rt; read(b"2^2,2")?.parts(), [2, 2, 2].as_slice());
+    Ok(())
+}
+
+#[test]
 fn refuses_other_texts(rt: HostRuntime) {
     for text in [
-        "", "0", "01", "3,", ",3", "3^1", "3^", "^2", "3^02", "1,3", "3,1,1", "2,2", "--", "a",
-        "3 ",
+        "", "0", "01", "03", "3,", ",3", "3,,1", "3^", "^2", "3^0", "3^02", "3^2^1", "1,3", "--",
+        "a", "3 ", " 3", "()", "(-)", "(", ")", "(3,1", "3,1)", "((3))", "(3)(1)", "3,(1)", "+3",
     ] {
         assert_eq!(rt;
             Partition::parse(text.as_bytes()).err(),
@@ -38,6 +48,8 @@ fn refuses_other_texts(rt: HostRuntime) {
         "256",
         "1^256",
         "40,39^99999999999999999999,2",
+        "(17,16)",
+        "17,8,8",
         long,
     ] {
         assert_eq!(rt;
