@@ -1,1 +1,5 @@
 pub mod Splitting
+pub mod Digits
+pub mod Faultless
+pub mod Right
+pub mod Fields

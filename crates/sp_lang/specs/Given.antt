@@ -1,8 +1,9 @@
 -- What holds of the fields of a command that was read.
-use Rattle.std.specs.Prelude.{◌≡◌, ℕ, ◌+◌, ◌<◌, ◌≤◌, true, List, All}
+use Rattle.std.specs.Prelude.{◌≡◌, ℕ, ◌+◌, ◌<◌, ◌≤◌, true, List, All, Result, Ok}
 use Rattle.sp_defs.specs.Partition.{degree, is_regular, IsPartition}
 use Rattle.sp_partition.specs.declared.TheConstants.{DEGREE_LIMIT}
 use Rattle.sp_lang.specs.declared.command.Command.{Command}
+use Rattle.sp_lang.specs.declared.fault.LineFault.{LineFault}
 use Rattle.sp_lang.specs.declared.command.Command.TheVariants.{Nothing, Partitions, Regular, Conjugate, Dominates}
 use Rattle.sp_lang.specs.declared.command.Command.TheVariants.{Diagram, Hooks, Content, Core, Combine, Abacus, Good}
 use Rattle.sp_lang.specs.declared.command.Command.TheVariants.{Path, Mullineux, Induce, Ladders, Ladder, Row}
@@ -51,3 +52,8 @@ IsCommand (Induce e i m p) = IsInduction e i m p
 IsCommand (Ladders e mu) = IsLabel e mu
 IsCommand (Ladder e mu) = IsLabel e mu
 IsCommand (Row e mu) = IsLabel e mu
+
+-- Only a quotient takes memory.
+abbrev pub WantsMemory : Result Command LineFault → Type 0
+WantsMemory (Ok (Combine e p quotient)) = Unit {0}
+WantsMemory other = ⊥

@@ -1,11 +1,11 @@
 // A line as a command.
-ghost use Rattle.std.specs.Prelude.{◌≡◌, ◌≢◌, IfOk, OnErr, Ok, Err, None};
+ghost use Rattle.std.specs.Prelude.{◌≡◌, ◌≢◌, IfOk, OnErr, find};
 ghost use Rattle.sp_lang.specs.Words.{words, is_allowed as allowed};
-ghost use Rattle.sp_lang.specs.Commands.{verb_of as verb_named, places_of, command_of};
-ghost use Rattle.sp_lang.specs.Faults.{first_fault as first_fault_of};
+ghost use Rattle.sp_lang.specs.Commands.{verb_of as verb_named, places_of};
+ghost use Rattle.sp_lang.specs.Faults.{any_word, first_fault as first_fault_of};
 ghost use Rattle.sp_lang.specs.Reading.{reading, said as said_by, said_behind as said_behind_by};
-ghost use Rattle.sp_lang.specs.Given.{IsCommand};
-ghost use Rattle.sp_lang.specs.Tests.{fitting_command};
+ghost use Rattle.sp_lang.specs.Given.{IsCommand, WantsMemory};
+ghost use Rattle.sp_lang.specs.Tests.{fails, fitting_command, first_failing as first_failing_of};
 
 use crate::test::{Test, any_fails};
 use crate::verb::{Place, VERBS, Verb};
@@ -23,6 +23,7 @@ use std::alloc::{AllocError, Global};
 pub fn read_command(alloc: Global, line: &[u8]) -> Result<Command, LineFault>
     ensures reads { result ≢ Err LineFault.Memory → result ≡ reading line.now }
     ensures command { IfOk result IsCommand }
+    ensures memory { result ≡ Err LineFault.Memory → WantsMemory (reading line.now) }
 {
     if line.len() > LINE_LIMIT {
         return Err(LineFault::LongLine);
@@ -41,6 +42,7 @@ fn is_allowed(byte: u8) -> bool
 
 fn said(alloc: Global, line: &[u8]) -> Result<Command, LineFault>
     ensures reads { result ≢ Err LineFault.Memory → result ≡ said_by (words line.now) }
+    ensures memory { result ≡ Err LineFault.Memory → WantsMemory (said_by (words line.now)) }
 {
     let Some((first, rest)) = split_word(line) else {
         return Ok(Command::Nothing);
@@ -60,36 +62,70 @@ fn verb_of(word: &[u8]) -> Option<Verb>
     VERBS.iter().find(|verb| verb.name() == word).copied()
 }
 
-fn said_behind(alloc: Global, verb: Verb, rest: &[u8]) -> Result<Command, LineFault> {
-    match first_fault(verb.places(), rest) {
+fn said_behind(alloc: Global, verb: Verb, rest: &[u8]) -> Result<Command, LineFault>
+    ensures reads { result ≢ Err LineFault.Memory → result ≡ said_behind_by (Some verb) (words rest.now) }
+    ensures memory { result ≡ Err LineFault.Memory → WantsMemory (said_behind_by (Some verb) (words rest.now)) }
+{
+    match first_fault(verb, rest) {
         Some(fault) => Err(fault),
-        None => command(alloc, verb, rest).map_err(|_| LineFault::Memory),
+        None => match command(alloc, verb, rest) {
+            Ok(command) => Ok(command),
+            Err(_) => Err(LineFault::Memory),
+        },
     }
 }
 
-fn first_fault(places: &[Place], text: &[u8]) -> Option<LineFault> {
+fn first_fault(verb: Verb, text: &[u8]) -> Option<LineFault>
+    ensures { result ≡ first_fault_of (places_of verb) (words text.now) }
+{
+    let places = verb.places();
     if word_count(text) != places.len() {
         return Some(LineFault::WordCount);
     }
+    first_failing(places, text)
+}
+
+// The first fault of as many words as there are places.
+fn first_failing(places: &[Place], text: &[u8]) -> Option<LineFault>
+    ensures { result ≡ first_failing_of places.now (words text.now) }
+{
     let first = word_at(text, 0);
     let tests = [
         (Test::Number, LineFault::NotNumber),
         (Test::Partition, LineFault::BadPartition),
         (Test::E, LineFault::BadE),
-        (Test::Degree(byte(word_at(text, 2))), LineFault::DegreePast),
+        (
+            Test::Degree(byte(word_at(text, 2))),
+            LineFault::DegreePast,
+        ),
         (Test::Peer(fitting(first)), LineFault::DegreesDiffer),
         (Test::Residue(byte(first)), LineFault::BadResidue),
         (Test::Regular(byte(first)), LineFault::NotRegular),
     ];
+    match first_of(&tests, places, text) {
+        Some((_, fault)) => Some(fault),
+        None => None,
+    }
+}
+
+// The first of the tests that finds a word wrong, and its fault.
+fn first_of(
+    tests: &[(Test, LineFault)],
+    places: &[Place],
+    text: &[u8],
+) -> Option<(Test, LineFault)>
+    ensures { result ≡ find (λ test. any_word (fails test.0) places.now (words text.now)) tests.now }
+{
     tests
         .iter()
         .find(|test| any_fails(test.0, places, text))
-        .map(|test| test.1)
+        .copied()
 }
 
 // The command, where its words have no fault.
 fn command(alloc: Global, verb: Verb, text: &[u8]) -> Result<Command, AllocError>
-    ensures { IfOk result (λ command. command ≡ fitting_command verb (words text.now)) }
+    ensures exact { IfOk result (λ command. command ≡ fitting_command verb (words text.now)) }
+    ensures memory { OnErr result (verb ≡ Verb.Combine) }
 {
     let number = |place| byte(word_at(text, place));
     let partition = |place| fitting(word_at(text, place));

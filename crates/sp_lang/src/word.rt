@@ -3,8 +3,7 @@ ghost use Rattle.std.specs.Prelude.{◌≡◌, ◌==◌, ◌≤◌, length, min,
 ghost use Rattle.std.specs.List.{list_any, list_all};
 ghost use Rattle.std.specs.Option.{option_map};
 ghost use Rattle.sp_defs.specs.Partition.{degree};
-ghost use Rattle.sp_partition.specs.Reading.{number_of, is_number as number_word, partition_of, parsed};
-ghost use Rattle.sp_partition.specs.Held.{IsHeld};
+ghost use Rattle.sp_partition.specs.Reading.{number_of, is_number as number_word, partition_of};
 ghost use Rattle.std.specs.Str.Parse.{digits_value};
 ghost use Rattle.std.specs.Char.{is_digit};
 ghost use Rattle.sp_lang.specs.Words.{pieces};
@@ -54,14 +53,6 @@ fn value(digits: &[u8]) -> u8
     value
 }
 
-// What the word is read as. A partition that was read is one that fits.
-fn parse(word: &[u8]) -> Result<Partition, NotPartition>
-    ensures reads { result ≡ parsed (partition_of word.now) }
-    ensures held { IfOk result IsHeld }
-{
-    Partition::parse(word)
-}
-
 /// The number that a word says, or 255 where it is greater, or 0 where the word says none.
 pub(crate) fn byte(word: &[u8]) -> u8
     ensures { result ≡ byte_of word.now }
@@ -73,21 +64,21 @@ pub(crate) fn byte(word: &[u8]) -> u8
 pub(crate) fn is_no_partition(word: &[u8]) -> bool
     ensures { result ≡ is_none (partition_of word.now) }
 {
-    matches!(parse(word), Err(NotPartition::Shape))
+    matches!(Partition::parse(word), Err(NotPartition::Shape))
 }
 
 /// The partition that a word says, or the empty one where there is none that fits.
 pub(crate) fn fitting(word: &[u8]) -> Partition
     ensures { result ≡ fitting_of word.now }
 {
-    parse(word).unwrap_or_default()
+    Partition::parse(word).unwrap_or_default()
 }
 
 /// Whether the word says a partition that, with so many nodes more, is past the limit.
 pub(crate) fn is_past(more: u8, word: &[u8]) -> bool
     ensures { result ≡ past more word.now }
 {
-    match parse(word) {
+    match Partition::parse(word) {
         Ok(p) => u16::from(p.degree()) + u16::from(more) > u16::from(DEGREE_LIMIT),
         Err(NotPartition::PastCapacity) => true,
         Err(NotPartition::Shape) => false,
@@ -98,8 +89,9 @@ pub(crate) fn is_past(more: u8, word: &[u8]) -> bool
 pub(crate) fn is_uneven(p: &Partition, word: &[u8]) -> bool
     ensures { result ≡ says (λ q. not (degree q == degree p.now)) (partition_of word.now) }
 {
-    match parse(word) {
-        Ok(q) => q.degree() != p.degree(),
+    let degree = p.degree();
+    match Partition::parse(word) {
+        Ok(q) => q.degree() != degree,
         Err(NotPartition::PastCapacity) => true,
         Err(NotPartition::Shape) => false,
     }
@@ -110,7 +102,7 @@ pub(crate) fn is_irregular(e: u8, word: &[u8]) -> bool
     requires { 2 ≤ e }
     ensures { result ≡ is_fitting_irregular e word.now }
 {
-    match parse(word) {
+    match Partition::parse(word) {
         Ok(p) => !p.is_regular(e),
         Err(_) => false,
     }

@@ -1,0 +1,31 @@
+-- Words that say numbers.
+use Rattle.std.proofs.Common.{◌≡◌, ℕ, ◌<◌, Bool, true, false, cond, ◌&&◌, List, [], ◌∷◌, refl, sym, ◌∙◌, ap, arith}
+use Rattle.std.proofs.Common.{ltb-true, min}
+use Rattle.std.proofs.lemmas.Bool.{and_parts}
+use Rattle.std.specs.Prelude.{Some, None}
+use Rattle.std.specs.Char.{digit_value, is_digit}
+use Rattle.std.specs.List.{list_all}
+use Rattle.std.specs.Option.{option_map}
+use Rattle.std.specs.Str.Parse.{AllDigits, digits_value}
+use Rattle.sp_partition.specs.Reading.{is_number, number_of}
+
+all_digits : (ds : List ℕ) → list_all (λ c. is_digit c 10) ds ≡ true → AllDigits 10 ds
+all_digits [] h = tt
+all_digits (d ∷ ds) h =
+    let parts = and_parts (is_digit d 10) (list_all (λ c. is_digit c 10) ds) h in
+    (ltb-true (digit_value d) 10 parts.0, all_digits ds parts.1)
+
+pub number_digits : (word : List ℕ) → is_number word ≡ true → AllDigits 10 word
+number_digits [] h = tt
+number_digits (d ∷ ds) h = all_digits (d ∷ ds) (and_parts (list_all (λ c. is_digit c 10) (d ∷ ds)) _ h).0
+
+pub number-yes : (word : List ℕ) → is_number word ≡ true →
+    Some (min (digits_value 10 word) 255) ≡ option_map (λ n. min n 255) (number_of word)
+unfolding number_of
+number-yes word h =
+    sym (ap (λ t. option_map (λ n. min n 255) (cond t (Some (digits_value 10 word)) None)) h)
+
+pub number-none : (word : List ℕ) → is_number word ≡ false → None ≡ option_map (λ n. min n 255) (number_of word)
+unfolding number_of
+number-none word h =
+    sym (ap (λ t. option_map (λ n. min n 255) (cond t (Some (digits_value 10 word)) None)) h)

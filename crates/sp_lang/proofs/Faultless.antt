@@ -1,0 +1,68 @@
+-- What is known of words in which no fault is found.
+use Rattle.std.proofs.Common.{◌≡◌, ℕ, zero, suc, ◌+◌, ◌<◌, ◌≤◌, Bool, true, false, cond, not, ◌||◌, List, [], ◌∷◌, length}
+use Rattle.std.proofs.Common.{refl, sym, ◌∙◌, ap, subst, arith, eqb, eqb-true, min, slice_get, nat_le, nat_lt}
+use Rattle.std.proofs.lemmas.Bool.{or_parts, not-false, ltb-false, and_parts, leb-true, eq-eqb, leb-false}
+use Rattle.std.specs.Prelude.{Option, Some, None, find, is_none, unwrap_or, All}
+use Rattle.std.specs.List.{list_any, zip}
+use Rattle.std.specs.Option.{option_map}
+use Rattle.sp_defs.specs.Partition.{degree, is_regular, IsPartition}
+use Rattle.sp_partition.specs.Reading.{number_of, partition_of}
+use Rattle.sp_partition.specs.declared.TheConstants.{DEGREE_LIMIT}
+use Rattle.sp_lang.specs.Words.{pieces}
+use Rattle.sp_lang.specs.Commands.{number, partition, partitions, word_at}
+use Rattle.sp_lang.specs.Faults.{says, is_e, is_past, is_no_number, is_no_partition, is_no_e, passes_limit}
+use Rattle.sp_lang.specs.Faults.{is_of_other_degree, is_no_residue, is_irregular, any_word, first_fault}
+use Rattle.sp_lang.specs.declared.fault.LineFault.{LineFault}
+use Rattle.sp_lang.specs.declared.verb.Place.{Place}
+
+pub record Faultless (places : List Place) (ws : List (List ℕ)) : Type 0 where
+  pub count : length ws ≡ length places
+  pub numbers : any_word is_no_number places ws ≡ false
+  pub partitions : any_word is_no_partition places ws ≡ false
+  pub e_range : any_word is_no_e places ws ≡ false
+  pub limit : any_word (passes_limit (number (word_at ws 2))) places ws ≡ false
+  pub peers : any_word (is_of_other_degree (degree (partition (word_at ws 0)))) places ws ≡ false
+  pub residues : any_word (is_no_residue (number (word_at ws 0))) places ws ≡ false
+  pub labels : any_word (is_irregular (number (word_at ws 0))) places ws ≡ false
+
+-- A search that finds nothing has passed over its first candidate.
+passed : (b : Bool) (fault : LineFault) (others : Option (LineFault × Bool)) →
+    option_map (λ (f : LineFault × Bool). f.0) (cond b (Some (fault, b)) others) ≡ None →
+    (b ≡ false) × (option_map (λ (f : LineFault × Bool). f.0) others ≡ None)
+passed true fault others h = absurd (cc)
+passed false fault others h = (refl, h)
+
+pub faultless : (places : List Place) (ws : List (List ℕ)) → first_fault places ws ≡ None → Faultless places ws
+unfolding first_fault
+faultless places ws h =
+    let count = passed _ _ _ h in
+    let numbers = passed _ _ _ count.1 in
+    let shapes = passed _ _ _ numbers.1 in
+    let range = passed _ _ _ shapes.1 in
+    let limit = passed _ _ _ range.1 in
+    let peers = passed _ _ _ limit.1 in
+    let residues = passed _ _ _ peers.1 in
+    let labels = passed _ _ _ residues.1 in
+    record {
+      count = eqb-true (length ws) (length places) (not-false (eqb (length ws) (length places)) count.0);
+      numbers = numbers.0;
+      partitions = shapes.0;
+      e_range = range.0;
+      limit = limit.0;
+      peers = peers.0;
+      residues = residues.0;
+      labels = labels.0;
+    }
+
+-- What is wrong nowhere isn't wrong at place k.
+pub right_at : (wrong : Place → List ℕ → Bool) (places : List Place) (ws : List (List ℕ)) (place : Place) (k : ℕ) →
+    length ws ≡ length places → any_word wrong places ws ≡ false → slice_get places k ≡ Some place →
+    wrong place (word_at ws k) ≡ false
+right_at wrong [] ws place k e h at = absurd (cc)
+right_at wrong (p ∷ ps) [] place k e h at = absurd (omega arith)
+right_at wrong (p ∷ ps) (w ∷ ws) place zero e h at =
+    let here = or_parts (wrong p w) (any_word wrong ps ws) h in
+    let same : p ≡ place = cc in
+    subst (λ q. wrong q w ≡ false) same here.0
+right_at wrong (p ∷ ps) (w ∷ ws) place (suc k) e h at =
+    right_at wrong ps ws place k (omega arith) (or_parts (wrong p w) (any_word wrong ps ws) h).1 at

@@ -1,0 +1,97 @@
+-- The fields of a command whose words have no fault.
+use Rattle.std.proofs.Common.{◌≡◌, ℕ, ◌≤◌, true, List, refl, sym, ap, ap₂, arith, slice_get}
+use Rattle.std.specs.Prelude.{Option, Some}
+use Rattle.sp_defs.specs.Partition.{is_regular}
+use Rattle.sp_lang.specs.Commands.{places_of, command_of, number, partition, word_at}
+use Rattle.sp_lang.specs.Given.{IsCommand, IsE, IsGiven, IsWithE, IsLabel}
+use Rattle.sp_lang.specs.Tests.{byte, fitting, fitting_command}
+use Rattle.sp_lang.specs.declared.command.Command.TheVariants as command
+use Rattle.sp_lang.specs.declared.verb.Place.{Place}
+use Rattle.sp_lang.specs.declared.verb.Place.TheVariants.{E, Degree, Partition, Label}
+use Rattle.sp_lang.specs.declared.verb.Verb.{Verb}
+use Rattle.sp_lang.specs.declared.verb.Verb.TheVariants.{Partitions, Regular, Conjugate, Dominates, Diagram, Hooks}
+use Rattle.sp_lang.specs.declared.verb.Verb.TheVariants.{Content, Core, Combine, Abacus, Good, Path, Mullineux}
+use Rattle.sp_lang.specs.declared.verb.Verb.TheVariants.{Induce, Ladders, Ladder, Row}
+use Rattle.sp_lang.proofs.Faultless.{Faultless}
+use Rattle.sp_lang.proofs.Right.{IsGiven-fits, byte-small, e_at, residue_at, degree_at, partition_at, peer_at, grown_at}
+use Rattle.sp_lang.proofs.Right.{label_at, quotient_at}
+
+module _ (places : List Place) (ws : List (List ℕ)) (f : Faultless places ws) where
+  exact_e : slice_get places 0 ≡ Some E → byte (word_at ws 0) ≡ number (word_at ws 0)
+  exact_e at = byte-small (word_at ws 0) (let e = e_at places ws f 0 at in omega (arith, e.high))
+
+  exact_degree : (k : ℕ) → slice_get places k ≡ Some Degree → byte (word_at ws k) ≡ number (word_at ws k)
+  exact_degree k at = byte-small (word_at ws k) (omega (arith, degree_at places ws f k at))
+
+  exact_partition : (k : ℕ) → slice_get places k ≡ Some Partition →
+      fitting (word_at ws k) ≡ partition (word_at ws k)
+  exact_partition k at = IsGiven-fits (word_at ws k) (partition_at places ws f k at)
+
+  exact_label : (k : ℕ) → slice_get places k ≡ Some Label → fitting (word_at ws k) ≡ partition (word_at ws k)
+  exact_label k at = IsGiven-fits (word_at ws k) (label_at places ws f k at).0
+
+  with_e : slice_get places 0 ≡ Some E → slice_get places 1 ≡ Some Partition →
+      IsWithE (number (word_at ws 0)) (partition (word_at ws 1))
+  with_e at_e at_p = (e_at places ws f 0 at_e, partition_at places ws f 1 at_p)
+
+  label : slice_get places 0 ≡ Some E → slice_get places 1 ≡ Some Label →
+      IsLabel (number (word_at ws 0)) (partition (word_at ws 1))
+  label at_e at_p =
+      let mu = label_at places ws f 1 at_p in
+      record { e_range = e_at places ws f 0 at_e; given = mu.0; regular = mu.1 }
+
+pub exact : (verb : Verb) (ws : List (List ℕ)) → Faultless (places_of verb) ws →
+    fitting_command verb ws ≡ command_of verb ws
+unfolding command_of
+exact Partitions ws f = ap command.Partitions (exact_degree _ ws f 0 refl)
+exact Regular ws f = ap₂ command.Regular (exact_e _ ws f refl) (exact_degree _ ws f 1 refl)
+exact Conjugate ws f = ap command.Conjugate (exact_partition _ ws f 0 refl)
+exact Dominates ws f =
+    ap₂ command.Dominates (exact_partition _ ws f 0 refl) (IsGiven-fits (word_at ws 1) (peer_at _ ws f 1 refl).0)
+exact Diagram ws f = ap₂ command.Diagram (exact_e _ ws f refl) (exact_partition _ ws f 1 refl)
+exact Hooks ws f = ap command.Hooks (exact_partition _ ws f 0 refl)
+exact Content ws f = ap₂ command.Content (exact_e _ ws f refl) (exact_partition _ ws f 1 refl)
+exact Core ws f = ap₂ command.Core (exact_e _ ws f refl) (exact_partition _ ws f 1 refl)
+exact Combine ws f =
+    cc (exact_e _ ws f refl, exact_partition _ ws f 1 refl, (quotient_at _ ws f 2 refl).1)
+exact Abacus ws f = ap₂ command.Abacus (exact_e _ ws f refl) (exact_partition _ ws f 1 refl)
+exact Good ws f = ap₂ command.Good (exact_e _ ws f refl) (exact_partition _ ws f 1 refl)
+exact Path ws f = ap₂ command.Path (exact_e _ ws f refl) (exact_label _ ws f 1 refl)
+exact Mullineux ws f = ap₂ command.Mullineux (exact_e _ ws f refl) (exact_label _ ws f 1 refl)
+exact Induce ws f =
+    let grown = grown_at _ ws f 3 refl in
+    let i : byte (word_at ws 1) ≡ number (word_at ws 1) = byte-small (word_at ws 1)
+    (let e = e_at _ ws f 0 refl in omega (arith, e.high, residue_at _ ws f 1 refl)) in
+    let m : byte (word_at ws 2) ≡ number (word_at ws 2) = byte-small (word_at ws 2) (omega (arith, grown.1)) in
+    cc (exact_e _ ws f refl, i, m, grown.2)
+exact Ladders ws f = ap₂ command.Ladders (exact_e _ ws f refl) (exact_label _ ws f 1 refl)
+exact Ladder ws f = ap₂ command.Ladder (exact_e _ ws f refl) (exact_label _ ws f 1 refl)
+exact Row ws f = ap₂ command.Row (exact_e _ ws f refl) (exact_label _ ws f 1 refl)
+
+pub fields : (verb : Verb) (ws : List (List ℕ)) → Faultless (places_of verb) ws → IsCommand (command_of verb ws)
+unfolding command_of
+fields Partitions ws f = degree_at _ ws f 0 refl
+fields Regular ws f = (e_at _ ws f 0 refl, degree_at _ ws f 1 refl)
+fields Conjugate ws f = partition_at _ ws f 0 refl
+fields Dominates ws f =
+    let peer = peer_at _ ws f 1 refl in (partition_at _ ws f 0 refl, peer.0, sym peer.1)
+fields Diagram ws f = with_e _ ws f refl refl
+fields Hooks ws f = partition_at _ ws f 0 refl
+fields Content ws f = with_e _ ws f refl refl
+fields Core ws f = with_e _ ws f refl refl
+fields Combine ws f = (e_at _ ws f 0 refl, partition_at _ ws f 1 refl, (quotient_at _ ws f 2 refl).0)
+fields Abacus ws f = with_e _ ws f refl refl
+fields Good ws f = with_e _ ws f refl refl
+fields Path ws f = label _ ws f refl refl
+fields Mullineux ws f = label _ ws f refl refl
+fields Induce ws f =
+    let grown = grown_at _ ws f 3 refl in
+    record {
+      e_range = e_at _ ws f 0 refl;
+      residue = residue_at _ ws f 1 refl;
+      partition = grown.0;
+      room = grown.1;
+    }
+fields Ladders ws f = label _ ws f refl refl
+fields Ladder ws f = label _ ws f refl refl
+fields Row ws f = label _ ws f refl refl
