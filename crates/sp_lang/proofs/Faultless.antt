@@ -3,7 +3,7 @@ use Rattle.std.proofs.Common.{◌≡◌, ℕ, zero, suc, ◌+◌, ◌<◌, ◌�
 use Rattle.std.proofs.Common.{refl, sym, ◌∙◌, ap, subst, arith, eqb, eqb-true, min, slice_get, nat_le, nat_lt}
 use Rattle.std.proofs.lemmas.Bool.{or_parts, not-false, ltb-false, and_parts, leb-true, eq-eqb, leb-false}
 use Rattle.std.specs.Prelude.{Option, Some, None, find, is_none, unwrap_or, All}
-use Rattle.std.specs.List.{list_any, zip}
+use Rattle.std.specs.List.{AllByRecursion}
 use Rattle.std.specs.Option.{option_map}
 use Rattle.sp_defs.specs.Partition.{degree, is_regular, IsPartition}
 use Rattle.sp_partition.specs.Reading.{number_of, partition_of}
@@ -11,7 +11,7 @@ use Rattle.sp_partition.specs.declared.TheConstants.{DEGREE_LIMIT}
 use Rattle.sp_lang.specs.Words.{pieces}
 use Rattle.sp_lang.specs.Commands.{number, partition, partitions, word_at}
 use Rattle.sp_lang.specs.Faults.{says, is_e, is_past, is_no_number, is_no_partition, is_no_e, passes_limit}
-use Rattle.sp_lang.specs.Faults.{is_of_other_degree, is_no_residue, is_irregular, any_word, first_fault}
+use Rattle.sp_lang.specs.Faults.{is_of_other_degree, is_no_residue, is_irregular, any_word, faults, first_fault}
 use Rattle.sp_lang.specs.declared.fault.LineFault.{LineFault}
 use Rattle.sp_lang.specs.declared.verb.Place.{Place}
 
@@ -25,33 +25,33 @@ pub record Faultless (places : List Place) (ws : List (List ℕ)) : Type 0 where
   pub residues : any_word (is_no_residue (number (word_at ws 0))) places ws ≡ false
   pub labels : any_word (is_irregular (number (word_at ws 0))) places ws ≡ false
 
--- A search that finds nothing has passed over its first candidate.
-passed : (b : Bool) (fault : LineFault) (others : Option (LineFault × Bool)) →
-    option_map (λ (f : LineFault × Bool). f.0) (cond b (Some (fault, b)) others) ≡ None →
-    (b ≡ false) × (option_map (λ (f : LineFault × Bool). f.0) others ≡ None)
-passed true fault others h = absurd (cc)
-passed false fault others h = (refl, h)
+-- A search that finds nothing has passed over all.
+none_there : (fs : List (LineFault × Bool)) →
+    option_map (λ (f : LineFault × Bool). f.0) (find (λ f. f.1) fs) ≡ None →
+    AllByRecursion (λ f. f.1 ≡ false) fs
+none_there [] h = tt
+none_there (f ∷ fs) h = by_test f.1 refl (none_there fs) h
+  where
+    by_test : (t : Bool) → f.1 ≡ t →
+        (option_map (λ (f : LineFault × Bool). f.0) (find (λ f. f.1) fs) ≡ None → AllByRecursion (λ f. f.1 ≡ false) fs) →
+        option_map (λ (f : LineFault × Bool). f.0) (cond t (Some f) (find (λ f. f.1) fs)) ≡ None →
+        (f.1 ≡ false) × AllByRecursion (λ f. f.1 ≡ false) fs
+    by_test true is rest h = absurd (cc)
+    by_test false is rest h = (is, rest h)
 
 pub faultless : (places : List Place) (ws : List (List ℕ)) → first_fault places ws ≡ None → Faultless places ws
 unfolding first_fault
 faultless places ws h =
-    let count = passed _ _ _ h in
-    let numbers = passed _ _ _ count.1 in
-    let shapes = passed _ _ _ numbers.1 in
-    let range = passed _ _ _ shapes.1 in
-    let limit = passed _ _ _ range.1 in
-    let peers = passed _ _ _ limit.1 in
-    let residues = passed _ _ _ peers.1 in
-    let labels = passed _ _ _ residues.1 in
+    let none = none_there (faults places ws) h in
     record {
-      count = eqb-true (length ws) (length places) (not-false (eqb (length ws) (length places)) count.0);
-      numbers = numbers.0;
-      partitions = shapes.0;
-      e_range = range.0;
-      limit = limit.0;
-      peers = peers.0;
-      residues = residues.0;
-      labels = labels.0;
+      count = eqb-true (length ws) (length places) (not-false (eqb (length ws) (length places)) none.0);
+      numbers = none.1.0;
+      partitions = none.1.1.0;
+      e_range = none.1.1.1.0;
+      limit = none.1.1.1.1.0;
+      peers = none.1.1.1.1.1.0;
+      residues = none.1.1.1.1.1.1.0;
+      labels = none.1.1.1.1.1.1.1.0;
     }
 
 -- What is wrong nowhere isn't wrong at place k.

@@ -3,3 +3,5 @@ pub mod Digits
 pub mod Faultless
 pub mod Right
 pub mod Fields
+pub mod Order
+pub mod Answered

@@ -1,5 +1,5 @@
 -- What words say that have no fault in their places.
-use Rattle.std.proofs.Common.{◌≡◌, ℕ, ◌+◌, ◌<◌, ◌≤◌, Bool, true, false, not, ◌||◌, List, [], ◌∷◌, map, refl, sym}
+use Rattle.std.proofs.Common.{◌≡◌, ℕ, ◌+◌, ◌<◌, ◌≤◌, Bool, true, false, not, ◌||◌, List, [], ◌∷◌, map, length, refl, sym}
 use Rattle.std.proofs.Common.{◌∙◌, ap, ap₂, arith, eqb, eqb-true, min, slice_get, nat_le, nat_lt}
 use Rattle.std.proofs.lemmas.Bool.{or_parts, not-false, ltb-false, and_parts, leb-true, leb-false, le-leb, cond-true}
 use Rattle.std.proofs.lemmas.Bool.{true≢false}
@@ -78,15 +78,27 @@ all_fit (word ∷ words) some past =
 
 -- ---- the word at a place
 
+pub e_of : (places : List Place) (ws : List (List ℕ)) (k : ℕ) → length ws ≡ length places →
+    any_word is_no_number places ws ≡ false → any_word is_no_e places ws ≡ false → slice_get places k ≡ Some E →
+    IsE (number (word_at ws k))
+e_of places ws k count numbers range at =
+    let e = number (word_at ws k) in
+    let parts = and_parts (nat_le 2 e) (nat_le e 64) (not-false (is_e e)
+    (unsaid (λ e. not (is_e e)) (number_of (word_at ws k)) 0
+    (right_at is_no_number places ws E k count numbers at) (right_at is_no_e places ws E k count range at))) in
+    record { low = leb-true 2 e parts.0; high = leb-true e 64 parts.1 }
+
+pub given_of : (places : List Place) (ws : List (List ℕ)) (k : ℕ) → length ws ≡ length places →
+    any_word is_no_partition places ws ≡ false →
+    any_word (passes_limit (number (word_at ws 2))) places ws ≡ false → slice_get places k ≡ Some Partition →
+    IsGiven (partition (word_at ws k))
+given_of places ws k count shapes limit at =
+    given (word_at ws k) (right_at is_no_partition places ws Partition k count shapes at)
+    (right_at (passes_limit (number (word_at ws 2))) places ws Partition k count limit at)
+
 module _ (places : List Place) (ws : List (List ℕ)) (f : Faultless places ws) (k : ℕ) where
   pub e_at : slice_get places k ≡ Some E → IsE (number (word_at ws k))
-  e_at at =
-      let e = number (word_at ws k) in
-      let parts = and_parts (nat_le 2 e) (nat_le e 64) (not-false (is_e e)
-      (unsaid (λ e. not (is_e e)) (number_of (word_at ws k)) 0
-      (right_at is_no_number places ws E k f.count f.numbers at)
-      (right_at is_no_e places ws E k f.count f.e_range at))) in
-      record { low = leb-true 2 e parts.0; high = leb-true e 64 parts.1 }
+  e_at at = e_of places ws k f.count f.numbers f.e_range at
 
   pub residue_at : slice_get places k ≡ Some Residue → number (word_at ws k) < number (word_at ws 0)
   residue_at at =
@@ -104,9 +116,7 @@ module _ (places : List Place) (ws : List (List ℕ)) (f : Faultless places ws) 
       (right_at (passes_limit (number (word_at ws 2))) places ws Degree k f.count f.limit at))
 
   pub partition_at : slice_get places k ≡ Some Partition → IsGiven (partition (word_at ws k))
-  partition_at at =
-      given (word_at ws k) (right_at is_no_partition places ws Partition k f.count f.partitions at)
-      (right_at (passes_limit (number (word_at ws 2))) places ws Partition k f.count f.limit at)
+  partition_at at = given_of places ws k f.count f.partitions f.limit at
 
   pub peer_at : slice_get places k ≡ Some Peer →
       IsGiven (partition (word_at ws k)) × (degree (partition (word_at ws k)) ≡ degree (partition (word_at ws 0)))

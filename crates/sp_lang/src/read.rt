@@ -1,11 +1,12 @@
 // A line as a command.
 ghost use Rattle.std.specs.Prelude.{◌≡◌, ◌≢◌, IfOk, OnErr, find};
+ghost use Rattle.std.specs.List.{list_all};
 ghost use Rattle.sp_lang.specs.Words.{words, is_allowed as allowed};
 ghost use Rattle.sp_lang.specs.Commands.{verb_of as verb_named, places_of};
 ghost use Rattle.sp_lang.specs.Faults.{any_word, first_fault as first_fault_of};
 ghost use Rattle.sp_lang.specs.Reading.{reading, said as said_by, said_behind as said_behind_by};
 ghost use Rattle.sp_lang.specs.Given.{IsCommand, WantsMemory};
-ghost use Rattle.sp_lang.specs.Tests.{fails, fitting_command, first_failing as first_failing_of};
+ghost use Rattle.sp_lang.specs.Tests.{fails, fitting_command, tests_of as tests_by, first_failing as first_failing_of};
 
 use crate::test::{Test, any_fails};
 use crate::verb::{Place, VERBS, Verb};
@@ -28,10 +29,16 @@ pub fn read_command(alloc: Global, line: &[u8]) -> Result<Command, LineFault>
     if line.len() > LINE_LIMIT {
         return Err(LineFault::LongLine);
     }
-    if !line.iter().all(|byte| is_allowed(*byte)) {
+    if !are_allowed(line) {
         return Err(LineFault::BadByte);
     }
     said(alloc, line)
+}
+
+fn are_allowed(line: &[u8]) -> bool
+    ensures { result ≡ list_all allowed line.now }
+{
+    line.iter().all(|byte| is_allowed(*byte))
 }
 
 fn is_allowed(byte: u8) -> bool
@@ -89,23 +96,28 @@ fn first_fault(verb: Verb, text: &[u8]) -> Option<LineFault>
 fn first_failing(places: &[Place], text: &[u8]) -> Option<LineFault>
     ensures { result ≡ first_failing_of places.now (words text.now) }
 {
-    let first = word_at(text, 0);
-    let tests = [
-        (Test::Number, LineFault::NotNumber),
-        (Test::Partition, LineFault::BadPartition),
-        (Test::E, LineFault::BadE),
-        (
-            Test::Degree(byte(word_at(text, 2))),
-            LineFault::DegreePast,
-        ),
-        (Test::Peer(fitting(first)), LineFault::DegreesDiffer),
-        (Test::Residue(byte(first)), LineFault::BadResidue),
-        (Test::Regular(byte(first)), LineFault::NotRegular),
-    ];
+    let tests = tests_of(text);
     match first_of(&tests, places, text) {
         Some((_, fault)) => Some(fault),
         None => None,
     }
+}
+
+// The tests in their order, and the faults that they find.
+fn tests_of(text: &[u8]) -> [(Test, LineFault); 7]
+    ensures { result ≡ tests_by (words text.now) }
+{
+    let first = word_at(text, 0);
+    let third = word_at(text, 2);
+    [
+        (Test::Number, LineFault::NotNumber),
+        (Test::Partition, LineFault::BadPartition),
+        (Test::E, LineFault::BadE),
+        (Test::Degree(byte(third)), LineFault::DegreePast),
+        (Test::Peer(fitting(first)), LineFault::DegreesDiffer),
+        (Test::Residue(byte(first)), LineFault::BadResidue),
+        (Test::Regular(byte(first)), LineFault::NotRegular),
+    ]
 }
 
 // The first of the tests that finds a word wrong, and its fault.

@@ -1,0 +1,108 @@
+-- What a line says, and what holds of it.
+use Rattle.std.proofs.Common.{◌≡◌, ◌≢◌, ℕ, ◌<◌, ◌≤◌, Bool, true, false, cond, not, List, [], ◌∷◌, length, refl, sym, ◌∙◌, ap}
+use Rattle.std.proofs.Common.{subst, eqb, nat_lt}
+use Rattle.std.proofs.lemmas.Bool.{cond_both, cond-true, cond-false, lt-ltb, le-ltb}
+use Rattle.std.proofs.lemmas.Option.{none-some, same_Some}
+use Rattle.std.specs.Prelude.{Option, Some, None, Result, Ok, Err, IfOk, codes, find}
+use Rattle.std.specs.List.{AllByRecursion, list_all, starts_with}
+use Rattle.std.specs.Option.{option_map}
+use Rattle.sp_lang.specs.Words.{is_allowed, words}
+use Rattle.sp_lang.specs.Commands.{verb_of, places_of, command_of}
+use Rattle.sp_lang.specs.Faults.{faults, first_fault}
+use Rattle.sp_lang.specs.Given.{IsCommand, WantsMemory}
+use Rattle.sp_lang.specs.Reading.{or_fault, said_behind, said, reading}
+use Rattle.sp_lang.specs.Tests.{fitting_command}
+use Rattle.sp_lang.specs.declared.TheConstants.{LINE_LIMIT}
+use Rattle.sp_lang.specs.declared.command.Command.{Command}
+use Rattle.sp_lang.specs.declared.command.Command.TheVariants.{Nothing}
+use Rattle.sp_lang.specs.declared.fault.LineFault.{LineFault}
+use Rattle.sp_lang.specs.declared.fault.LineFault.TheVariants.{LongLine, BadByte, Memory}
+use Rattle.sp_lang.specs.declared.verb.Place.{Place}
+use Rattle.sp_lang.specs.declared.verb.Verb.{Verb}
+use Rattle.sp_lang.specs.declared.verb.Verb.TheVariants.{Combine}
+use Rattle.sp_lang.proofs.Faultless.{faultless}
+use Rattle.sp_lang.proofs.Fields.{exact, fields}
+
+-- ---- want of memory is no fault of a line
+
+none_named : (fs : List (LineFault × Bool)) → AllByRecursion (λ f. f.0 ≡ Memory → ⊥) fs →
+    option_map (λ (f : LineFault × Bool). f.0) (find (λ f. f.1) fs) ≡ Some Memory → ⊥
+none_named [] others is = none-some Memory is
+none_named (f ∷ fs) others is = by_test f.1 (none_named fs others.1) is
+  where
+    by_test : (t : Bool) → (option_map (λ (f : LineFault × Bool). f.0) (find (λ f. f.1) fs) ≡ Some Memory → ⊥) →
+        option_map (λ (f : LineFault × Bool). f.0) (cond t (Some f) (find (λ f. f.1) fs)) ≡ Some Memory → ⊥
+    by_test true rest is = others.0 (same_Some f.0 Memory is)
+    by_test false rest is = rest is
+
+pub never_memory : (places : List Place) (ws : List (List ℕ)) → first_fault places ws ≡ Some Memory → ⊥
+unfolding first_fault
+never_memory places ws is =
+    none_named (faults places ws)
+    ((λ e. cc), ((λ e. cc), ((λ e. cc), ((λ e. cc), ((λ e. cc), ((λ e. cc), ((λ e. cc), ((λ e. cc), tt))))))))
+    is
+
+-- ---- behind the first word
+
+pub answered : (verb : Verb) (ws : List (List ℕ)) (command : Command) → None ≡ first_fault (places_of verb) ws →
+    command ≡ fitting_command verb ws →
+    Ok command ≡ or_fault (command_of verb ws) (first_fault (places_of verb) ws)
+answered verb ws command none is =
+    ap Ok (is ∙ exact verb ws (faultless (places_of verb) ws (sym none)))
+    ∙ ap (or_fault (command_of verb ws)) none
+
+pub wanted : (verb : Verb) (ws : List (List ℕ)) → None ≡ first_fault (places_of verb) ws → verb ≡ Combine →
+    WantsMemory (or_fault (command_of verb ws) (first_fault (places_of verb) ws))
+unfolding command_of
+wanted verb ws none is =
+    subst (λ o. WantsMemory (or_fault (command_of verb ws) o)) none
+    (subst (λ v. WantsMemory (Ok (command_of v ws))) (sym is) tt)
+
+-- ---- the fields of what was read
+
+behind : (verb : Option Verb) (ws : List (List ℕ)) → IfOk (said_behind verb ws) IsCommand
+behind None ws = tt
+behind (Some verb) ws = by_fault (first_fault (places_of verb) ws) refl
+  where
+    by_fault : (o : Option LineFault) → first_fault (places_of verb) ws ≡ o →
+        IfOk (or_fault (command_of verb ws) o) IsCommand
+    by_fault None none = fields verb ws (faultless (places_of verb) ws none)
+    by_fault (Some fault) is = tt
+
+said_command : (ws : List (List ℕ)) → IfOk (said ws) IsCommand
+said_command [] = tt
+said_command (first ∷ rest) =
+    cond_both (starts_with eqb first (codes "#")) (Ok Nothing) (said_behind (verb_of first) rest)
+    (λ (r : Result Command LineFault). IfOk r IsCommand) (λ e. tt) (λ e. behind (verb_of first) rest)
+
+-- ---- the length and the bytes
+
+pub long_line : (line : List ℕ) → LINE_LIMIT < length line → Err LongLine ≡ reading line
+unfolding reading
+long_line line long =
+    sym (cond-true (nat_lt LINE_LIMIT (length line)) _ _ (lt-ltb LINE_LIMIT (length line) long))
+
+short_line : (line : List ℕ) → length line ≤ LINE_LIMIT →
+    reading line ≡ cond (not (list_all is_allowed line)) (Err BadByte) (said (words line))
+unfolding reading
+short_line line short =
+    cond-false (nat_lt LINE_LIMIT (length line)) _ _ (le-ltb LINE_LIMIT (length line) short)
+
+pub bad_byte : (line : List ℕ) → length line ≤ LINE_LIMIT → list_all is_allowed line ≡ false →
+    Err BadByte ≡ reading line
+bad_byte line short other =
+    sym (short_line line short ∙ cond-true (not (list_all is_allowed line)) _ _ (ap not other))
+
+pub plain_line : (line : List ℕ) → length line ≤ LINE_LIMIT → list_all is_allowed line ≡ true →
+    said (words line) ≡ reading line
+plain_line line short all =
+    sym (short_line line short ∙ cond-false (not (list_all is_allowed line)) _ _ (ap not all))
+
+-- ---- what was read
+
+pub read_command : (line : List ℕ) (r : Result Command LineFault) → (r ≢ Err Memory → r ≡ said (words line)) →
+    IfOk r IsCommand
+read_command line (Err fault) reads = tt
+read_command line (Ok command) reads =
+    let is : Ok command ≡ said (words line) = reads (λ e. cc) in
+    subst (λ (r : Result Command LineFault). IfOk r IsCommand) (sym is) (said_command (words line))
