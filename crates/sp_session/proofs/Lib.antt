@@ -1,2 +1,5 @@
-pub mod Ladders
+pub mod WordRows
+pub mod DominanceTest
+pub mod Finding
+pub mod Images
 pub mod Induced

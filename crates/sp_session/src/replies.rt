@@ -1,20 +1,21 @@
-// The answers to the commands.
-ghost use Rattle.std.specs.Prelude.{◌≡◌, ◌++◌, ◌≤◌, ◌<◌, ◌^◌, ◌+◌, true, IfOk, OnOk};
-ghost use Rattle.sp_defs.specs.Partition.{IsPartition, degree as degree_of, is_regular};
-ghost use Rattle.sp_defs.specs.Power.{divided_power, entries, fock_vector, unit};
-ghost use Rattle.sp_defs.specs.Text.{vector_text};
-ghost use Rattle.sp_lang.specs.Built.{IsCommand, command_of};
-ghost use Rattle.sp_session.specs.Reply.{answer_or_refusal, answer_to, ladder_answer};
+// The reply to a line.
+ghost use Rattle.std.specs.Prelude.{◌≡◌, ◌++◌, ◌≤◌, ◌<◌, ◌^◌, OnOk};
+ghost use Rattle.sp_lang.specs.Given.{IsCommand};
+ghost use Rattle.sp_lang.specs.Reading.{reading};
+ghost use Rattle.sp_session.specs.Reply.{answer_or_fault, answer_to};
 
-use crate::steps::put_ladders;
-use sp_fock::Vector;
-use sp_ladder::ladder_vector;
-use sp_lang::{Command, read_command};
-use sp_partition::{DEGREE_LIMIT, Partition};
-use sp_power::{PowerFault, induce};
+use crate::abacuses::{put_combined, put_core};
+use crate::diagrams::put_content;
+use crate::faults::put_fault;
+use crate::orders::{put_conjugate, put_dominance, put_partitions, put_regulars};
+use crate::signatures::{put_good, put_image, put_path};
+use crate::vectors::{put_induced, put_ladder_vector, put_ladders};
+use sp_abacus::abacus_text;
+use sp_lang::{Command, LineFault, read_command};
+use sp_nodes::{diagram_text, hooks_text};
 use std::alloc::{AllocError, Global};
 
-/// Appends the answer to a line. An `Err` leaves `out` unspecified.
+/// Appends the reply to a line: the answer to its command, or its first fault. An `Err` leaves `out` unspecified.
 pub(crate) fn put_reply(
     alloc: Global,
     limit: u128,
@@ -23,11 +24,12 @@ pub(crate) fn put_reply(
 ) -> Result<(), AllocError>
     requires least { 1 ≤ limit }
     requires most { limit < 2 ^ 127 }
-    ensures { OnOk result (out.new.items ≡ out.old.items ++ answer_or_refusal limit (command_of line.now)) }
+    ensures { OnOk result (out.new.items ≡ out.old.items ++ answer_or_fault limit (reading line.now)) }
 {
-    match read_command(line) {
-        Some(command) => put_answer(alloc, limit, &command, out),
-        None => out.extend_from_slice(b"error 1 unknown command"),
+    match read_command(alloc, line) {
+        Ok(command) => put_answer(alloc, limit, &command, out),
+        Err(LineFault::Memory) => Err(AllocError),
+        Err(fault) => put_fault(fault, out),
     }
 }
 
@@ -45,65 +47,26 @@ fn put_answer(
     ensures { OnOk result (out.new.items ≡ out.old.items ++ answer_to limit command.now) }
 {
     match command {
+        Command::Nothing => Ok(()),
+        Command::Partitions(n) => put_partitions(alloc, *n, out),
+        Command::Regular(e, n) => put_regulars(alloc, *e, *n, out),
+        Command::Conjugate(p) => put_conjugate(alloc, p, out),
+        Command::Dominates(upper, lower) => put_dominance(upper, lower, out),
+        Command::Diagram(e, p) => diagram_text(alloc, *e, p, out),
+        Command::Hooks(p) => hooks_text(alloc, p, out),
+        Command::Content(e, p) => put_content(alloc, *e, p, out),
+        Command::Core(e, p) => put_core(alloc, *e, p, out),
+        Command::Combine(e, kappa, quotient) => {
+            put_combined(alloc, *e, kappa, quotient.as_slice(), out)
+        }
+        Command::Abacus(e, p) => abacus_text(alloc, *e, p, out),
+        Command::Good(e, p) => put_good(alloc, *e, p, out),
+        Command::Path(e, mu) => put_path(alloc, *e, mu, out),
+        Command::Mullineux(e, mu) => put_image(alloc, *e, mu, out),
         Command::Induce(e, i, m, p) => put_induced(alloc, limit, *e, *i, *m, p, out),
         Command::Ladders(e, mu) => put_ladders(alloc, *e, mu, out),
         Command::Ladder(e, mu) => put_ladder_vector(alloc, limit, *e, mu, out),
-    }
-}
-
-// The divided power of one partition, which is never too large.
-fn put_induced(
-    alloc: Global,
-    limit: u128,
-    e: u8,
-    i: u8,
-    m: u8,
-    p: &Partition,
-    out: &mut Vec<u8>,
-) -> Result<(), AllocError>
-    requires least { 1 ≤ limit }
-    requires most { limit < 2 ^ 127 }
-    requires e_least { 2 ≤ e }
-    requires e_most { e ≤ 64 }
-    requires below { i < e }
-    requires room { degree_of p.now + m ≤ DEGREE_LIMIT }
-    ensures { OnOk result (out.new.items ≡
-        out.old.items ++ vector_text (entries (degree_of p.now + m) (divided_power e i m (unit p.now)))) }
-{
-    let one = unit_vector(alloc, p)?;
-    match induce(alloc, e, i, m, &one, limit) {
-        Ok(vector) => vector.print(alloc, out),
-        Err(PowerFault::Memory) => Err(AllocError),
-        Err(PowerFault::TooLarge) => unreachable!(),
-    }
-}
-
-fn unit_vector(alloc: Global, p: &Partition) -> Result<Vector, AllocError>
-    ensures vector { IfOk result (λ v. v ≡ fock_vector (degree_of p.now) (unit p.now)) }
-    ensures partition { IsPartition p.now }
-{
-    let _held = p.degree();
-    Vector::one(alloc, p)
-}
-
-// A ladder vector, or that it is too large.
-fn put_ladder_vector(
-    alloc: Global,
-    limit: u128,
-    e: u8,
-    mu: &Partition,
-    out: &mut Vec<u8>,
-) -> Result<(), AllocError>
-    requires least { 1 ≤ limit }
-    requires most { limit < 2 ^ 127 }
-    requires e_least { 2 ≤ e }
-    requires e_most { e ≤ 64 }
-    requires regular { is_regular e mu.now ≡ true }
-    ensures { OnOk result (out.new.items ≡ out.old.items ++ ladder_answer limit e mu.now) }
-{
-    match ladder_vector(alloc, e, mu, limit) {
-        Ok(vector) => vector.print(alloc, out),
-        Err(PowerFault::Memory) => Err(AllocError),
-        Err(PowerFault::TooLarge) => out.extend_from_slice(b"error 9 too large"),
+        // not built yet
+        Command::Row(_, _) => put_fault(LineFault::UnknownCommand, out),
     }
 }

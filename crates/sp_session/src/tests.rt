@@ -15,6 +15,18 @@ struct Case {
     output: &'static str,
 }
 
+/// No words, and nothing fails.
+fn plain(input: &'static str, status: Status, output: &'static str) -> Case {
+    Case {
+        word: None,
+        input,
+        failing_read: 0,
+        failing_write: 0,
+        status,
+        output,
+    }
+}
+
 /// Whether a run ends as the case says.
 fn holds(alloc: Global, case: &Case) -> Result<bool, AllocError> {
     let mut words = Vec::new(alloc);
@@ -23,7 +35,7 @@ fn holds(alloc: Global, case: &Case) -> Result<bool, AllocError> {
     }
     let mut input = Vec::new(alloc);
     input.extend_from_slice(case.input.as_bytes())?;
-    let mut source = MemSource::new(input, 8, vec![in alloc; case.failing_read]?);
+    let mut source = MemSource::new(input, 14, vec![in alloc; case.failing_read]?);
     let mut sink = MemSink::new(alloc, 1_000, 7, vec![in alloc; case.failing_write]?)?;
     let status = run_alone(alloc, &words, &mut source, &mut sink);
     Ok(status == case.status && sink.bytes() == case.output.as_bytes())
@@ -31,32 +43,20 @@ fn holds(alloc: Global, case: &Case) -> Result<bool, AllocError> {
 
 #[test]
 fn a_run_says_how_it_ended(rt: HostRuntime) -> Result<(), Fail> {
-    let plain = |input, status, output| Case {
-        word: None,
-        input,
-        failing_read: 0,
-        failing_write: 0,
-        status,
-        output,
-    };
     let cases = [
         plain("", Status::Done, ""),
-        plain("frob 1", Status::Done, "error 1 unknown command\n"),
+        plain("conjugate 3,1", Status::Done, "2,1^2\n"),
         Case {
             word: Some("frob"),
-            ..plain("frob 1\n", Status::Usage, "")
+            ..plain("conjugate 3,1\n", Status::Usage, "")
         },
         Case {
             failing_read: 2,
-            ..plain(
-                "frob 1\nfrob 2\n",
-                Status::ReadFault,
-                "error 1 unknown command\n",
-            )
+            ..plain("conjugate 3,1\nconjugate 2\n", Status::ReadFault, "2,1^2\n")
         },
         Case {
             failing_write: 1,
-            ..plain("frob 1\n", Status::WriteFault, "")
+            ..plain("conjugate 3,1\nconjugate 2\n", Status::WriteFault, "")
         },
     ];
     for case in &cases {
@@ -65,13 +65,103 @@ fn a_run_says_how_it_ended(rt: HostRuntime) -> Result<(), Fail> {
     Ok(())
 }
 
+// The second line is cut in its middle by the fault.
 #[test]
-fn commands_are_answered(rt: HostRuntime) -> Result<(), Fail> {
+fn a_line_that_a_fault_cuts_is_not_answered(rt: HostRuntime) -> Result<(), Fail> {
+    let case = Case {
+        failing_read: 3,
+        ..plain(
+            "conjugate 3,1\nconjugate 3,1,1,1,1\n",
+            Status::ReadFault,
+            "2,1^2\n",
+        )
+    };
+    assert!(rt; holds(rt.alloc(), &case)?);
+    Ok(())
+}
+
+/// Whether the lines are answered so.
+fn gives(alloc: Global, input: &'static str, output: &'static str) -> Result<bool, AllocError> {
+    holds(alloc, &plain(input, Status::Done, output))
+}
+
+#[test]
+fn orders_are_answered(rt: HostRuntime) -> Result<(), Fail> {
+    let cases = [
+        ("partitions 0\n", "-\n"),
+        ("partitions 3\n", "3\n2,1\n1^3\n"),
+        ("regular 2 5\n", "5\n4,1\n3,2\n"),
+        ("conjugate (3,1,1)\n", "3,1^2\n"),
+        ("dominates 3,1^3 2^3\ndominates 2^3 3,1^3\n", "no\nno\n"),
+        ("dominates 4 3,1\ndominates 3,1 4\n", "yes\nno\n"),
+        ("dominates 2 1\n", "error 17 degrees differ\n"),
+    ];
+    for (input, output) in cases {
+        assert!(rt; gives(rt.alloc(), input, output)?, "at {input}");
+    }
+    Ok(())
+}
+
+#[test]
+fn diagrams_are_answered(rt: HostRuntime) -> Result<(), Fail> {
+    let cases = [
+        ("diagram 3 3,1\n", "0 1 2\n2\n"),
+        ("diagram 3 -\nhooks -\n", "-\n-\n"),
+        ("hooks 3,1\n", "4 2 1\n1\n"),
+        ("content 3 4\n", "2 1 1\n"),
+    ];
+    for (input, output) in cases {
+        assert!(rt; gives(rt.alloc(), input, output)?, "at {input}");
+    }
+    Ok(())
+}
+
+#[test]
+fn cores_and_quotients_are_answered(rt: HostRuntime) -> Result<(), Fail> {
+    let cases = [
+        ("core 3 4\n", "core 1 weight 1 quotient 1|-|-\n"),
+        ("core 2 4\n", "core - weight 2 quotient -|2\n"),
+        ("abacus 3 4\n", "oo.\n...\no..\n"),
+        ("abacus 3 -\n", "-\n"),
+        ("combine 3 1 1|-|-\n", "4\n"),
+        ("combine 3 3 -|-|-\n", "error 18 not a core\n"),
+        ("combine 3 1 -|-\n", "error 18 not e quotients\n"),
+        ("combine 3 1 7|-|-\n", "error 18 degree past 20\n"),
+    ];
+    for (input, output) in cases {
+        assert!(rt; gives(rt.alloc(), input, output)?, "at {input}");
+    }
+    Ok(())
+}
+
+#[test]
+fn good_nodes_are_answered(rt: HostRuntime) -> Result<(), Fail> {
+    let cases = [
+        (
+            "good 2 3,2\n",
+            "0 normal (1,3) (2,2) good (2,2) cogood (3,1)\n1 normal - good - cogood (1,4)\n",
+        ),
+        (
+            "good 2 4\n",
+            "0 normal - good - cogood (1,5)\n1 normal (1,4) good (1,4) cogood (2,1)\n",
+        ),
+        ("good 5 -\n", "0 normal - good - cogood (1,1)\n"),
+        ("path 3 4\npath 2 -\n", "0 2 1 0\n-\n"),
+        ("mullineux 3 4\nmullineux 2 -\n", "2^2\n-\n"),
+    ];
+    for (input, output) in cases {
+        assert!(rt; gives(rt.alloc(), input, output)?, "at {input}");
+    }
+    Ok(())
+}
+
+#[test]
+fn vectors_are_answered(rt: HostRuntime) -> Result<(), Fail> {
     let cases = [
         ("induce 2 0 1 3,1\n", "v^-1[3,2] + [3,1^2]\n"),
         ("induce 2 0 1 2^2", "[3,2] + [2^2,1]\n"),
         ("induce 2 0 2 2,1\n", "[3,2] + v[3,1^2] + v^2[2^2,1]\n"),
-        ("induce 2 1 1 2^2\n\n", "0\nerror 1 unknown command\n"),
+        ("induce 2 1 1 2^2\n", "0\n"),
         (
             "ladder 2 5\n",
             "[5] + [3,2] + 2v[3,1^2] + v^2[2^2,1] + v^2[1^5]\n",
@@ -79,16 +169,66 @@ fn commands_are_answered(rt: HostRuntime) -> Result<(), Fail> {
         ("ladders 2 3,2\nladders 2 -\n", "1:0:1 2:1:2 3:0:2\n-\n"),
     ];
     for (input, output) in cases {
-        let case = Case {
-            word: None,
-            input,
-            failing_read: 0,
-            failing_write: 0,
-            status: Status::Done,
-            output,
-        };
-        assert!(rt; holds(rt.alloc(), &case)?, "at {input}");
+        assert!(rt; gives(rt.alloc(), input, output)?, "at {input}");
     }
+    Ok(())
+}
+
+#[test]
+fn refusals_name_the_first_fault(rt: HostRuntime) -> Result<(), Fail> {
+    let cases = [
+        ("frob 1\n", "error 1 unknown command\n"),
+        ("conjugate\n", "error 2 wrong number of words\n"),
+        (
+            "partitions x\npartitions 02\n",
+            "error 3 not a number\nerror 3 not a number\n",
+        ),
+        ("conjugate 1,3\n", "error 4 not a partition\n"),
+        ("content 65 1\n", "error 5 e not in 2..64\n"),
+        ("conjugate 500\n", "error 6 degree past 20\n"),
+        ("partitions 21\n", "error 6 degree past 20\n"),
+        ("induce 2 0 20 1\n", "error 6 degree past 20\n"),
+        ("path 2 2^2\n", "error 7 not e-regular\n"),
+        ("induce 2 2 1 1\n", "error 8 residue not below e\n"),
+        ("conjugate 1\r\n", "error 13 byte not allowed\n"),
+    ];
+    for (input, output) in cases {
+        assert!(rt; gives(rt.alloc(), input, output)?, "at {input}");
+    }
+    Ok(())
+}
+
+#[test]
+fn comments_and_blank_lines_have_no_reply(rt: HostRuntime) -> Result<(), Fail> {
+    let input = "# degree 4\n\n \t\nconjugate\t 2\n  # frob\n";
+    assert!(rt; gives(rt.alloc(), input, "1^2\n")?);
+    Ok(())
+}
+
+/// What a run writes of these bytes, and how it ends.
+fn run_of(alloc: Global, input: Vec<u8>, piece: usize) -> Result<(Status, Vec<u8>), AllocError>
+    requires { 0 < piece }
+{
+    let mut source = MemSource::new(input, piece, Vec::new(alloc));
+    let mut sink = MemSink::new(alloc, 1_000, 100, Vec::new(alloc))?;
+    let status = run_alone(alloc, &[], &mut source, &mut sink);
+    let mut written = Vec::new(alloc);
+    written.extend_from_slice(sink.bytes())?;
+    Ok((status, written))
+}
+
+#[test]
+fn a_line_past_the_limit_is_refused_alone(rt: HostRuntime) -> Result<(), Fail> {
+    let alloc = rt.alloc();
+    let mut input = Vec::new(alloc);
+    input.resize(4_097, b'a')?;
+    input.extend_from_slice(b"\nconjugate 2\n")?;
+    let (status, written) = run_of(alloc, input, 1_000)?;
+    assert!(rt; status == Status::Done);
+    assert_eq!(rt;
+        written.as_slice(),
+        b"error 12 line past 4096 bytes\n1^2\n".as_slice()
+    );
     Ok(())
 }
 
@@ -106,13 +246,23 @@ fn a_full_sink_has_the_first_bytes(rt: HostRuntime) -> Result<(), Fail> {
 }
 
 #[test]
-fn an_input_past_the_limit_is_refused(rt: HostRuntime) -> Result<(), Fail> {
+fn an_input_past_the_limit_leaves_the_whole_lines(rt: HostRuntime) -> Result<(), Fail> {
     let alloc = rt.alloc();
-    let mut bytes = Vec::new(alloc);
-    bytes.resize(16_777_217, b'a')?;
-    let mut source = MemSource::new(bytes, 1_000_000, Vec::new(alloc));
-    let mut sink = MemSink::new(alloc, 100, 100, Vec::new(alloc))?;
-    let status = run_alone(alloc, &[], &mut source, &mut sink);
-    assert!(rt; status == Status::InputTooLong && sink.bytes().is_empty());
+    let mut input = Vec::new(alloc);
+    input.extend_from_slice(b"conjugate 3,1\nconjugate 2")?;
+    input.resize(16_777_217, b' ')?;
+    let (status, written) = run_of(alloc, input, 1_000_000)?;
+    assert!(rt; status == Status::InputTooLong);
+    assert_eq!(rt; written.as_slice(), b"2,1^2\n".as_slice());
+    Ok(())
+}
+
+#[test]
+fn an_input_of_newlines_past_the_limit_has_no_reply(rt: HostRuntime) -> Result<(), Fail> {
+    let alloc = rt.alloc();
+    let mut input = Vec::new(alloc);
+    input.resize(16_777_217, b'\n')?;
+    let (status, written) = run_of(alloc, input, 1_000_000)?;
+    assert!(rt; status == Status::InputTooLong && written.is_empty());
     Ok(())
 }

@@ -1,8 +1,9 @@
 use Rattle.std.proofs.Common.{◌++◌, ◌∙◌, ap}
 use Rattle.sp_defs.specs.Text.{vector_text}
-use Rattle.sp_session.proofs.Ladders.{on_ok}
+use Rattle.sp_session.specs.Words.{line_of}
+use Rattle.sp_session.proofs.WordRows.{on_ok}
 use Rattle.sp_session.proofs.Induced.{induced, never_too_large, powers_small}
-use Rattle.sp_session.proofs.replies.put_induced.Goals as goal
+use Rattle.sp_session.proofs.vectors.put_induced.Goals as goal
 
 pub induce-requires-clause-powers : goal.induce-requires-clause-powers
 induce-requires-clause-powers c =
@@ -10,11 +11,11 @@ induce-requires-clause-powers c =
 
 pub returns-in-Ok : goal.returns-in-Ok
 returns-in-Ok c =
-    on_ok c.print.result _ _
-    (λ is. is ∙ ap (λ es. c.args.out.now.items ++ vector_text es)
+    on_ok c.put_vector.result _ _
+    (λ is. is ∙ ap (λ es. c.args.out.now.items ++ line_of (vector_text es))
     (induced c.args.p.now c.in_ok-one.one c.in_ok-one.ensures.partition c.in_ok-one.ensures.vector c.args.e c.args.i
     c.args.m
-    c.in-Ok.vector c.in-Ok.ensures.ok)) c.print.ensures.text
+    c.in-Ok.vector c.in-Ok.ensures.ok)) c.put_vector.ensures
 
 pub unreachable-requires : goal.unreachable-requires
 unreachable-requires c =
