@@ -20,7 +20,7 @@ same_transcript {State} rules now_rules state now input room rules_is state_is f
     (subst (λ (s : State). length (transcript rules s input) ≤ room) (sym state_is) fits)
 
 pub returns-clause-told : goal.returns-clause-told
-returns-clause-told g c = λ _ input told.
+returns-clause-told g c = λ input told.
     let at = c.serve.ensures.told input told in
     let begun = c.new-session.ensures in (
       at.0,
