@@ -1,1 +1,4 @@
 pub mod Existence
+pub mod Place
+pub mod Shares
+pub mod Found

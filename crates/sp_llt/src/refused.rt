@@ -1,0 +1,40 @@
+// Why there is no row.
+use crate::Entry;
+use sp_partition::Partition;
+use std::sync::Arc;
+
+/// Why an entry has no row.
+#[derive(Clone, Copy, Debug)]
+pub enum Refused {
+    /// The weight of a partition that it needs is past the limit.
+    TooLarge,
+    /// The greatest partition other than its own whose coefficient in the regular row isn't in vZ[v].
+    Stray { at: Partition },
+}
+
+/// A refused entry of a list: its partition, and why.
+#[derive(Clone, Copy, Debug)]
+pub struct FirstRefused {
+    pub mu: Partition,
+    pub why: Refused,
+}
+
+/// Why a list of rows gives nothing.
+#[derive(Clone, Copy, Debug)]
+pub enum RowsFault {
+    Refused(FirstRefused),
+    Memory,
+}
+
+/// The last entry of the list that is refused. It takes no memory.
+pub fn first_refused(rows: &[Arc<Entry>]) -> Option<FirstRefused> {
+    for entry in rows.iter().rev() {
+        if let Err(why) = entry.row() {
+            return Some(FirstRefused {
+                mu: *entry.mu(),
+                why,
+            });
+        }
+    }
+    None
+}
