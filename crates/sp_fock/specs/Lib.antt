@@ -4,3 +4,4 @@ pub mod Walk
 pub mod Fault
 pub mod Sum
 pub mod Print
+pub mod Growth

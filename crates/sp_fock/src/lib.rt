@@ -4,11 +4,14 @@
 mod fault;
 mod joined;
 mod sums;
+mod tally;
 mod terms;
 mod text;
+mod totals;
 mod vector;
 
 pub use fault::FockFault;
+pub use tally::Tally;
 pub use terms::Terms;
 pub use vector::Vector;
 
