@@ -1,0 +1,211 @@
+-- The number of the partitions of n with parts at most m, for all n below a bound, by a table that grows from m to
+-- m + 1. The rows of the table are computed by the checker.
+use Rattle.std.proofs.Common.{◌≡◌, ℕ, zero, suc, ◌+◌, ◌-◌, ◌*◌, ◌/◌, ◌<◌, ◌≤◌, true, false, cond, nat_eq, nat_le, List, []}
+use Rattle.std.proofs.Common.{◌∷◌, ◌++◌, map, take, length, get_or, replicate, sum_by, refl, sym, ◌∙◌, ap, ap₂, subst, arith}
+use Rattle.std.proofs.Common.{leb-true, lt-ltb, eq-eqb, mul-le-mul_left, mul-le-mul_right, Bool, ◌&&◌}
+use Rattle.std.proofs.Math.Nat.{div-eq_of_lt}
+use Rattle.std.proofs.lemmas.List.{length-map}
+use Rattle.std.proofs.lemmas.List.Concat.{length-flat_map}
+use Rattle.std.proofs.lemmas.List.FromFn.{get_or-map-range_with_len, take-map-range_with_len}
+use Rattle.std.proofs.lemmas.List.Sums.{length-filter, count_by-le-length, sum_by-cons}
+use Rattle.std.specs.List.{AllByRecursion, list_all, range_with_len}
+use Rattle.sp_defs.specs.Partition.{degree, partitions_within, partitions, is_regular, regulars}
+use Rattle.sp_defs.specs.Row.{earlier}
+use Rattle.sp_defs.specs.Statements.{IsLabel}
+use Rattle.sp_lists.proofs.Elements.{all_tests, range_all, range_at}
+use Rattle.sp_lists.proofs.Greatest.{within_map}
+use Rattle.sp_shapes.proofs.Listing.{Occurs, IsPartition-nil, IsPartition-cons, each_regular, regulars_ascend}
+use Rattle.sp_shapes.proofs.Order.{all_mono}
+use Rattle.sp_row_bounds.specs.Powers.{row_bound}
+use Rattle.sp_row_bounds.specs.Counts.{partition_numbers, CountLaw}
+use Rattle.sp_row_bounds.proofs.Shares.{fewer_before}
+
+counted : ℕ → ℕ → ℕ
+counted m n = length (partitions_within m n)
+
+-- those with k parts m + 1, for each k
+counted-next : (m n : ℕ) →
+    counted (suc m) n ≡ sum_by (λ k. counted m (n - k * suc m)) (range_with_len 0 (n / suc m + 1))
+unfolding partitions_within counted
+counted-next m n =
+    length-flat_map (λ k. map (λ rest. replicate k (suc m) ++ rest) (partitions_within m (n - k * suc m)))
+    (range_with_len 0 (n / suc m + 1))
+    ∙ ap (λ f. sum_by f (range_with_len 0 (n / suc m + 1)))
+    (λ i k. length-map (partitions_within m (n - k * suc m)) (λ rest. replicate k (suc m) ++ rest) i)
+
+-- no partition of n has a part greater than n
+counted-more : (n d : ℕ) → counted (n + d) n ≡ counted n n
+counted-more n zero = ap (λ m. counted m n) (omega arith)
+counted-more n (suc d) =
+    ap (λ m. counted m n) (one_up n d)
+    ∙ counted-next (n + d) n
+    ∙ ap (λ q. sum_by (λ k. counted (n + d) (n - k * suc (n + d))) (range_with_len 0 (q + 1)))
+    (div-eq_of_lt {n = n} {m = suc (n + d)} (omega arith))
+    ∙ sum_by-cons (λ k. counted (n + d) (n - k * suc (n + d))) 0 []
+    ∙ ap (λ x. x + 0) (ap (counted (n + d)) (none n d))
+    ∙ plain (counted (n + d) n)
+    ∙ counted-more n d
+  where
+    one_up : (n d : ℕ) → n + suc d ≡ suc (n + d)
+    one_up n d = omega arith
+
+    none : (n d : ℕ) → n - 0 * suc (n + d) ≡ n
+    none n d = omega arith
+
+    plain : (x : ℕ) → x + 0 ≡ x
+    plain x = omega arith
+
+-- ---- the table
+
+-- the numbers for 0, 1, .. l - 1, from those with parts at most m to those with parts at most m + 1
+next_row : ℕ → ℕ → List ℕ → List ℕ
+next_row l m row =
+    map (λ n. sum_by (λ k. get_or row (n - k * suc m) 0) (range_with_len 0 (n / suc m + 1))) (range_with_len 0 l)
+
+row_of : ℕ → ℕ → List ℕ
+row_of l zero = map (λ n. cond (nat_eq n 0) 1 0) (range_with_len 0 l)
+row_of l (suc m) = next_row l m (row_of l m)
+
+map_alike : {X Y : Type 0} (f g : X → Y) (xs : List X) → AllByRecursion (λ x. f x ≡ g x) xs → map f xs ≡ map g xs
+map_alike f g [] h = refl
+map_alike f g (x ∷ xs) (h, hs) = ap₂ (λ a b. a ∷ b) h (map_alike f g xs hs)
+
+row_is : (l m : ℕ) → row_of l m ≡ map (counted m) (range_with_len 0 l)
+unfolding row_of next_row counted partitions_within
+row_is l zero = map_alike (λ n. cond (nat_eq n 0) 1 0) (counted 0) (range_with_len 0 l)
+    (range_all (λ n. cond (nat_eq n 0) 1 0 ≡ counted 0 n) 0 l (λ n lo hi. one (nat_eq n 0)))
+  where
+    one : (b : Bool) → cond b 1 0 ≡ length {A = List ℕ} (cond b ([] ∷ []) [])
+    one true = refl
+    one false = refl
+row_is l (suc m) =
+    ap (next_row l m) (row_is l m)
+    ∙ map_alike (λ n. sum_by (λ k. get_or row (n - k * suc m) 0) (range_with_len 0 (n / suc m + 1))) (counted (suc m))
+    (range_with_len 0 l)
+    (range_all
+    (λ n. sum_by (λ k. get_or row (n - k * suc m) 0) (range_with_len 0 (n / suc m + 1)) ≡ counted (suc m) n) 0 l
+    (λ n lo hi. ap (λ f. sum_by f (range_with_len 0 (n / suc m + 1))) (λ i k. found n k (omega arith) i)
+    ∙ sym (counted-next m n)))
+  where
+    row : List ℕ
+    row = map (counted m) (range_with_len 0 l)
+
+    found : (n k : ℕ) → n < l → get_or row (n - k * suc m) 0 ≡ counted m (n - k * suc m)
+    found n k lt =
+        get_or-map-range_with_len (counted m) 0 l (n - k * suc m) (n - k * suc m) 0 (omega arith) (omega arith)
+
+-- ---- the numbers
+
+computed : row_of 33 32 ≡ partition_numbers
+unfolding row_of next_row
+computed = refl
+
+counted_all : (n : ℕ) → n ≤ 32 → counted 32 n ≡ counted n n
+counted_all n le = ap (λ m. counted m n) (gap n le) ∙ counted-more n (32 - n)
+  where
+    gap : (n : ℕ) → n ≤ 32 → 32 ≡ n + (32 - n)
+    gap n le = omega arith
+
+pub numbers : map (λ n. length (partitions n)) (range_with_len 0 33) ≡ partition_numbers
+unfolding partitions counted
+numbers =
+    sym (map_alike (counted 32) (λ n. length (partitions n)) (range_with_len 0 33)
+    (range_all (λ n. counted 32 n ≡ length (partitions n)) 0 33 (λ n lo hi. counted_all n (omega arith))))
+    ∙ sym (row_is 33 32)
+    ∙ computed
+
+-- a bound on the first of the numbers
+few : (l b : ℕ) → l ≤ 33 → list_all (λ x. nat_le x b) (take l partition_numbers) ≡ true → (n : ℕ) → n < l →
+    length (partitions n) ≤ b
+few l b le test n lt =
+    range_at (λ k. length (partitions k) ≤ b) 0 l
+    (within_map (λ k. length (partitions k)) b (range_with_len 0 l)
+    (subst (λ xs. AllByRecursion (λ x. x ≤ b) xs) (sym first)
+    (all_mono (λ x. nat_le x b ≡ true) (λ x. x ≤ b) (take l partition_numbers) (λ x e. leb-true x b e)
+    (all_tests (λ x. nat_le x b) (take l partition_numbers) test)))) n (omega arith) (omega arith)
+  where
+    first : map (λ k. length (partitions k)) (range_with_len 0 l) ≡ take l partition_numbers
+    first = sym (take-map-range_with_len (λ k. length (partitions k)) 0 33 l le) ∙ ap (take l) numbers
+
+up_to_20 : (n : ℕ) → n ≤ 20 → length (partitions n) ≤ 627
+up_to_20 n le = few 21 627 (omega arith) refl n (omega arith)
+
+up_to_30 : (n : ℕ) → n ≤ 30 → length (partitions n) ≤ 5604
+up_to_30 n le = few 31 5604 (omega arith) refl n (omega arith)
+
+up_to_32 : (n : ℕ) → n ≤ 32 → length (partitions n) ≤ 8349
+up_to_32 n le = few 33 8349 (omega arith) refl n (omega arith)
+
+-- ---- the e-regular ones
+
+few_regulars : (e n : ℕ) → length (regulars e n) ≤ length (partitions n)
+unfolding regulars
+few_regulars e n =
+    omega (
+      arith,
+      length-filter (is_regular e) (partitions n),
+      count_by-le-length (is_regular e) (partitions n),
+    )
+
+occurs_some : {X : Type 0} (x : X) (xs : List X) → Occurs x xs → 1 ≤ length xs
+occurs_some x [] o = absurd o
+occurs_some x (y ∷ xs) o = omega arith
+
+-- the partition with one part
+some_regular : (e n : ℕ) → 2 ≤ e → 1 ≤ length (regulars e n)
+some_regular e zero he =
+    occurs_some [] (regulars e 0)
+    (each_regular e 0 [] (record { partition = IsPartition-nil; total = refl; regular = refl }))
+some_regular e (suc n) he =
+    occurs_some (suc n ∷ []) (regulars e (suc n)) (each_regular e (suc n) (suc n ∷ []) (record {
+      partition = IsPartition-cons (suc n) [] (omega arith) (omega arith) IsPartition-nil;
+      total = omega arith;
+      regular = once;
+    }))
+  where
+    once : is_regular e (suc n ∷ []) ≡ true
+    once =
+        let same : 0 + cond (nat_eq (suc n) (suc n)) 1 0 ≡ 1 =
+        ap (λ b. 0 + cond b 1 0) (eq-eqb (suc n) (suc n) refl) in
+        ap (λ b. b && true) (lt-ltb (0 + cond (nat_eq (suc n) (suc n)) 1 0) e (omega arith))
+
+few_earlier : (e : ℕ) (mu : List ℕ) → IsLabel e mu → length (earlier e mu) < length (regulars e (degree mu))
+few_earlier e mu is =
+    omega (
+      arith,
+      fewer_before mu (regulars e (degree mu)) (regulars_ascend e (degree mu))
+          (each_regular e (degree mu) mu
+          (record { partition = is.partition; total = refl; regular = is.regular })),
+    )
+
+-- ---- the bound on powers
+
+product : (a b c d : ℕ) → a ≤ b → c ≤ d → a * c ≤ b * d
+product a b c d h k =
+    let first : a * c ≤ b * c = mul-le-mul_right c h in
+    let second : b * c ≤ b * d = mul-le-mul_left b k in
+    omega arith
+
+row_bound_within : (e : ℕ) (mu : List ℕ) (n b : ℕ) → IsLabel e mu → degree mu ≤ n → length (partitions (degree mu)) ≤ b →
+    row_bound e mu ≤ b * (n * n)
+row_bound_within e mu n b is le most = product (length (earlier e mu) + 1) b (degree mu * degree mu) (n * n) ranks squares
+  where
+    ranks : length (earlier e mu) + 1 ≤ b
+    ranks = omega (arith, few_earlier e mu is, few_regulars e (degree mu))
+
+    squares : degree mu * degree mu ≤ n * n
+    squares = product (degree mu) n (degree mu) n le le
+
+pub count_law : CountLaw
+count_law = record {
+  numbers = numbers;
+  up_to_20 = up_to_20;
+  up_to_30 = up_to_30;
+  up_to_32 = up_to_32;
+  some_regular = some_regular;
+  few_regulars = few_regulars;
+  few_earlier = few_earlier;
+  row_bound_20 = λ e mu is le. row_bound_within e mu 20 627 is le (up_to_20 (degree mu) le);
+  row_bound_30 = λ e mu is le. row_bound_within e mu 30 5604 is le (up_to_30 (degree mu) le);
+  row_bound_32 = λ e mu is le. row_bound_within e mu 32 8349 is le (up_to_32 (degree mu) le);
+}

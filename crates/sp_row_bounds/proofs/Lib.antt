@@ -1,0 +1,5 @@
+pub mod Powers
+pub mod Exponents
+pub mod Shares
+pub mod Rows
+pub mod Counts
