@@ -1,0 +1,72 @@
+-- The rank of an e-regular partition is the number of those before it: the element at that place of the list is the
+-- partition, and the earlier ones stand at the places before it, as do the shares.
+use Rattle.std.proofs.Common.{◌≡◌, ℕ, zero, suc, ◌+◌, ◌<◌, ◌≤◌, List, [], ◌∷◌, ◌++◌, length, map, get_or, drop, take, refl}
+use Rattle.std.proofs.Common.{sym, ◌∙◌, ap, subst, arith, Less}
+use Rattle.std.proofs.lemmas.List.{length-map, get_or-map, get_or_append_left, length-append}
+use Rattle.std.proofs.Math.Seq.{get_or-append_seam}
+use Rattle.sp_lists.proofs.Places.{all_at}
+use Rattle.std.specs.List.{AllByRecursion}
+use Rattle.sp_defs.specs.Partition.{degree, regulars, compare, IsRegularOf, Ascending}
+use Rattle.sp_defs.specs.Ladder.{ladder_vector}
+use Rattle.sp_defs.specs.Row.{Factors, before, earlier, shares, shares_over}
+use Rattle.sp_defs.specs.Statements.{IsLabel}
+use Rattle.sp_shapes.proofs.Before.{about, after, before_self, before_keep, IsCut}
+use Rattle.sp_shapes.proofs.Listing.{all_regulars, each_regular, regulars_ascend}
+use Rattle.sp_triangle.proofs.Shares.{keys-shares}
+use Rattle.sp_outcome_law.specs.Asking.{share_at}
+
+pub keys : (e : ℕ) (mu : List ℕ) → map (λ a. a.0) (shares e mu) ≡ earlier e mu
+unfolding shares
+keys e mu = keys-shares (ladder_vector e) mu (earlier e mu)
+
+pub length_shares : (e : ℕ) (mu : List ℕ) → length (shares e mu) ≡ length (earlier e mu)
+length_shares e mu = sym (length-map (shares e mu) (λ a. a.0)) ∙ ap length (keys e mu)
+
+module _ (e : ℕ) (mu : List ℕ) (is : IsLabel e mu) where
+  abbrev rs : List (List ℕ)
+  rs = regulars e (degree mu)
+
+  pub label_regular : IsRegularOf e (degree mu) mu
+  label_regular = record { partition = is.partition; total = refl; regular = is.regular }
+
+  pub cut : IsCut mu rs
+  cut = about mu rs (regulars_ascend e (degree mu)) (each_regular e (degree mu) mu label_regular)
+
+  -- mu stands at its rank
+  pub at_rank : (d : List ℕ) → get_or (regulars e (degree mu)) (length (earlier e mu)) d ≡ mu
+  at_rank d =
+      ap (λ xs. get_or xs (length (earlier e mu)) d) cut.whole
+      ∙ get_or-append_seam (earlier e mu) mu (after mu rs) d
+
+  pub rank_within : length (earlier e mu) < length (regulars e (degree mu))
+  rank_within =
+      let l : length rs ≡ length (earlier e mu) + suc (length (after mu rs)) =
+      ap length cut.whole ∙ length-append (earlier e mu) (mu ∷ after mu rs) in
+      omega (arith, l)
+
+  -- the partition of a lower rank is that of the share there
+  pub earlier_at : (j : ℕ) (d : List ℕ) → j < length (earlier e mu) →
+      get_or (regulars e (degree mu)) j d ≡ (share_at e mu j).0
+  unfolding share_at
+  earlier_at j d h =
+      ap (λ xs. get_or xs j d) cut.whole
+      ∙ get_or_append_left (earlier e mu) (mu ∷ after mu rs) d j h
+      ∙ ap (λ xs. get_or xs j d) (sym (keys e mu))
+      ∙ get_or-map (λ a. a.0) (shares e mu) j ([], []) d (omega (arith, length_shares e mu, h))
+
+-- ---- a place determines the partition, and the other way round
+
+place_before : (xs : List (List ℕ)) (k : ℕ) (mu d : List ℕ) → Ascending xs → k < length xs → get_or xs k d ≡ mu →
+    k ≡ length (before mu xs)
+place_before [] k mu d up h at = absurd (omega (arith, h))
+place_before (x ∷ xs) zero mu d (u, us) h at =
+    subst (λ y. zero ≡ length (before y (x ∷ xs))) at (ap length (sym (before_self x xs u)))
+place_before (x ∷ xs) (suc k) mu d (u, us) h at =
+    let e : compare x mu ≡ Less = subst (λ y. compare x y ≡ Less) at
+    (all_at (λ y. compare x y ≡ Less) xs k d u (omega (arith, h))) in
+    ap suc (place_before xs k mu d us (omega (arith, h)) at) ∙ ap length (sym (before_keep x mu xs e))
+
+pub rank_of : (e n k : ℕ) (mu d : List ℕ) → k < length (regulars e n) → get_or (regulars e n) k d ≡ mu → degree mu ≡ n →
+    k ≡ length (earlier e mu)
+rank_of e n k mu d h at t =
+    place_before (regulars e n) k mu d (regulars_ascend e n) h at ∙ ap (λ m. length (before mu (regulars e m))) (sym t)
