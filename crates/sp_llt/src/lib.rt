@@ -4,13 +4,18 @@
 //! partition from the earlier entries that it asks for, and [`entry_alone`] does both.
 #![tactic(auto)]
 
+mod alone;
+mod builder;
 mod ctx;
 mod entry;
 mod law;
 mod refused;
 mod search;
 mod share;
+mod state;
 
+pub use alone::entry_alone;
+pub use builder::Builder;
 pub use ctx::Ctx;
 pub use entry::Entry;
 pub use law::rows_law;
