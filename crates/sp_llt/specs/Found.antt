@@ -14,10 +14,11 @@ use Rattle.sp_llt.specs.Place.{IsKey, label, place, IsPlace}
 use Rattle.sp_llt.specs.Shares.{given_shares}
 
 -- The regular row, its shares and its stray partition, where the row isn't too large.
-pub record IsWhole (key : Key) (mu : List ℕ) (row : FockVector) (shares : List Share) (at : Option (List ℕ)) : Type 0 where
+pub record IsWhole (key : Key) (mu : List ℕ) (vector : FockVector) (given : List Share) (at : Option (List ℕ)) :
+    Type 0 where
   pub fits : is_too_large (outcome key.e key.limit mu) ≡ false
-  pub row : row ≡ fock_vector key.degree (regular_row key.e mu)
-  pub shares : shares ≡ given_shares key.e mu 0
+  pub row : vector ≡ fock_vector key.degree (regular_row key.e mu)
+  pub shares : given ≡ given_shares key.e mu 0
   pub stray : at ≡ stray key.e mu
 
 abbrev pub IsFound : Key → List ℕ → Found → Type 0
@@ -25,10 +26,10 @@ IsFound key mu found.TooLarge = outcome key.e key.limit mu ≡ TooLarge
 IsFound key mu (found.Whole row shares at) = IsWhole key mu row shares at
 
 -- What is true of the parts of an entry.
-pub record IsKept (key : Key) (rank : ℕ) (mu : List ℕ) (found : Found) : Type 0 where
+pub record IsKept (key : Key) (rank : ℕ) (own : List ℕ) (kept : Found) : Type 0 where
   pub place : IsPlace (place key rank)
-  pub mu : mu ≡ label key rank
-  pub found : IsFound key mu found
+  pub mu : own ≡ label key rank
+  pub found : IsFound key own kept
 
 -- The outcome that an answer tells.
 abbrev pub outcome_told : Result (Bor FockVector) Refused → Outcome

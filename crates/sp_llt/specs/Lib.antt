@@ -2,3 +2,8 @@ pub mod Existence
 pub mod Place
 pub mod Shares
 pub mod Found
+pub mod Laws
+pub mod Refusals
+pub mod Search
+pub mod Reached
+pub mod Table

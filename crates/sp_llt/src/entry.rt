@@ -1,11 +1,4 @@
 // The finished row of one e-regular partition.
-ghost use Rattle.std.specs.Prelude.{◌≡◌, ◌↔◌, IsTrue, IsNone, IfSome, IfOk};
-ghost use Rattle.sp_defs.specs.Power.{fock_vector};
-ghost use Rattle.sp_defs.specs.Row.{outcome, regular_row};
-ghost use Rattle.sp_defs.specs.Row.{TooLarge as IsTooLarge};
-ghost use Rattle.sp_llt.specs.Found.{IsKept, outcome_told};
-ghost use Rattle.sp_llt.specs.Place.{label, place, IsPlace};
-ghost use Rattle.sp_llt.specs.Shares.{told_shares};
 
 use crate::{Ctx, Refused, Share};
 use sp_core::{Key, Piece};
@@ -61,6 +54,16 @@ impl Piece for Entry {
 }
 
 impl Entry {
+    ghost use Rattle.std.specs.Prelude.{◌≡◌, ◌↔◌, IsTrue, IsNone, IfSome, IfOk, OnOk};
+    ghost use Rattle.std.specs.List.{AllByRecursion};
+    ghost use Rattle.sp_defs.specs.Power.{fock_vector};
+    ghost use Rattle.sp_defs.specs.Row.{regular_row, IsRow, TooLarge as IsTooLarge};
+    ghost use Rattle.sp_llt.specs.Found.{IsKept, outcome_told};
+    ghost use Rattle.sp_llt.specs.Laws.{ObeysRowLaw, ObeysShareLaw};
+    ghost use Rattle.sp_llt.specs.Place.{label, place, IsPlace};
+    ghost use Rattle.sp_llt.specs.Refusals.{outcome_at};
+    ghost use Rattle.sp_llt.specs.Shares.{told_shares};
+
     pub(crate) fn new(key: Key, rank: usize, mu: Partition, found: Found) -> Entry
         requires { IsKept key rank mu found }
         ensures { result ≡ place key rank }
@@ -89,7 +92,13 @@ impl Entry {
     }
 
     /// The row, or why there is none. It takes no memory.
-    pub fn row(&self) -> Result<&Vector, Refused> {
+    pub fn row(&self) -> Result<&Vector, Refused>
+        ensures outcome { outcome_told result ≡ outcome_at self.now }
+        ensures row { IfOk result (λ w. w.now ≡ fock_vector self.now.key.degree
+            (regular_row self.now.key.e (label self.now.key self.now.rank))) }
+        ensures is_row { OnOk result (IsRow self.now.key.e (label self.now.key self.now.rank)
+            (regular_row self.now.key.e (label self.now.key self.now.rank))) }
+    {
         match &self.found {
             Found::TooLarge => Err(Refused::TooLarge),
             Found::Whole {
@@ -101,7 +110,12 @@ impl Entry {
 
     /// The regular row, which is there also where a partition is stray. None exactly where the row is too large.
     /// It takes no memory.
-    pub fn regular_row(&self) -> Option<&Vector> {
+    pub fn regular_row(&self) -> Option<&Vector>
+        ensures none { IsNone result ↔ (outcome_at self.now ≡ IsTooLarge) }
+        ensures some { IfSome result (λ w. w.now ≡ fock_vector self.now.key.degree
+            (regular_row self.now.key.e (label self.now.key self.now.rank))) }
+        ensures law { IfSome result (λ w. ObeysRowLaw self.now w.now.entries) }
+    {
         match &self.found {
             Found::TooLarge => None,
             Found::Whole { row, .. } => Some(row),
@@ -109,7 +123,11 @@ impl Entry {
     }
 
     /// The shares that aren't 0, by descending ranks. Empty where the row is too large. It takes no memory.
-    pub fn shares(&self) -> &[Share] {
+    pub fn shares(&self) -> &[Share]
+        ensures shares { result.now ≡
+            told_shares self.now.key.e self.now.key.limit (label self.now.key self.now.rank) }
+        ensures law { AllByRecursion (ObeysShareLaw self.now) result.now }
+    {
         match &self.found {
             Found::TooLarge => &[],
             Found::Whole { shares, .. } => shares,

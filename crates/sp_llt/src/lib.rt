@@ -12,7 +12,6 @@ mod law;
 mod refused;
 mod search;
 mod share;
-mod state;
 
 pub use alone::entry_alone;
 pub use builder::Builder;

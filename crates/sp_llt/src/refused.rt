@@ -1,4 +1,8 @@
 // Why there is no row.
+ghost use Rattle.std.specs.Prelude.{◌≡◌, map, reverse};
+ghost use Rattle.std.specs.Arc.{arc_value};
+ghost use Rattle.sp_llt.specs.Refusals.{first_of};
+
 use crate::Entry;
 use sp_partition::Partition;
 use std::sync::Arc;
@@ -27,7 +31,9 @@ pub enum RowsFault {
 }
 
 /// The last entry of the list that is refused. It takes no memory.
-pub fn first_refused(rows: &[Arc<Entry>]) -> Option<FirstRefused> {
+pub fn first_refused(rows: &[Arc<Entry>]) -> Option<FirstRefused>
+    ensures { result ≡ first_of (reverse (map arc_value rows.now)) }
+{
     for entry in rows.iter().rev() {
         if let Err(why) = entry.row() {
             return Some(FirstRefused {

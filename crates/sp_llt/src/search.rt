@@ -1,4 +1,11 @@
 // How shares and stray partitions are found in a vector.
+ghost use Rattle.std.specs.Prelude.{◌≡◌, ◌≢◌, ◌≤◌, ◌<◌, ◌^◌, ℕ, [], length, find, reverse};
+ghost use Rattle.std.specs.Prelude.{IfOk, IsErrOf, MatchOption};
+ghost use Rattle.std.specs.Option.{option_map};
+ghost use Rattle.sp_defs.specs.Laurent.{lift, size};
+ghost use Rattle.sp_defs.specs.Power.{vector_of};
+ghost use Rattle.sp_llt.specs.Search.{NoLift, IsLastLift, IsLargeLift, is_stray_entry};
+
 use crate::Share;
 use sp_fock::Vector;
 use sp_laurent::{Laurent, LaurentFault};
@@ -12,7 +19,16 @@ pub(crate) fn next_share(
     vector: &Vector,
     end: usize,
     limit: u128,
-) -> Result<Option<Share>, LaurentFault> {
+) -> Result<Option<Share>, LaurentFault>
+    requires end { end ≤ length regulars.now }
+    requires least { 1 ≤ limit }
+    requires most { limit < 2 ^ 127 }
+    ensures found { IfOk result (λ found. MatchOption found
+        (NoLift (vector_of vector.now.entries) regulars.now 0 end)
+        (IsLastLift (vector_of vector.now.entries) regulars.now end limit)) }
+    ensures too_large { IsErrOf result LaurentFault.TooLarge →
+        (j : ℕ) × IsLargeLift (vector_of vector.now.entries) regulars.now end limit j }
+{
     for rank in (0..end).rev() {
         if let Some(alpha) = lift_at(alloc, vector, &regulars[rank], limit)? {
             return Ok(Some(Share { rank, alpha }));
@@ -27,7 +43,15 @@ fn lift_at(
     vector: &Vector,
     p: &Partition,
     limit: u128,
-) -> Result<Option<Laurent>, LaurentFault> {
+) -> Result<Option<Laurent>, LaurentFault>
+    requires least { 1 ≤ limit }
+    requires most { limit < 2 ^ 127 }
+    ensures found { IfOk result (λ found. MatchOption found
+        (lift (vector_of vector.now.entries p.now) ≡ [])
+        (λ alpha. (alpha ≡ lift (vector_of vector.now.entries p.now)) × (alpha ≢ []) × (size alpha ≤ limit))) }
+    ensures too_large { IsErrOf result LaurentFault.TooLarge →
+        limit < size (lift (vector_of vector.now.entries p.now)) }
+{
     match vector.coefficient(p) {
         Some(coefficient) if !coefficient.in_vzv() => Ok(Some(coefficient.lift(alloc, limit)?)),
         _ => Ok(None),
@@ -35,7 +59,9 @@ fn lift_at(
 }
 
 // The greatest partition other than `mu` whose coefficient isn't in vZ[v].
-pub(crate) fn stray_in(vector: &Vector, mu: &Partition) -> Option<Partition> {
+pub(crate) fn stray_in(vector: &Vector, mu: &Partition) -> Option<Partition>
+    ensures { result ≡ option_map (λ t. t.0) (find (is_stray_entry mu.now) (reverse vector.now.entries)) }
+{
     for pair in vector.pairs().iter().rev() {
         if pair.0 != *mu && !pair.1.in_vzv() {
             return Some(pair.0);
