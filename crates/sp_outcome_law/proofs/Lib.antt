@@ -4,3 +4,8 @@ pub mod Reached
 pub mod Ranks
 pub mod Needed
 pub mod Left
+pub mod Finding
+pub mod Splitting
+pub mod Next
+pub mod Decided
+pub mod Earlier

@@ -1,10 +1,13 @@
 -- Lists by places: a search downwards, what a filter keeps from a place on, and tests of some element.
 use Rattle.std.proofs.Common.{◌≡◌, ℕ, zero, suc, ◌+◌, Bool, true, false, cond, ◌||◌, List, [], ◌∷◌, ◌++◌, filter, drop}
-use Rattle.std.proofs.Common.{get_or, reverse, refl, sym, ◌∙◌, ap, ap₂, arith, zero-add, Some, ◌≤◌, ◌<◌, ◌⊎◌, inl, inr, length}
+use Rattle.std.proofs.Common.{get_or, reverse, refl, sym, ◌∙◌, ap, ap₂, arith, zero-add, Some, None, eq-or-lt_of_le, ◌≤◌, ◌<◌, ◌⊎◌, inl, inr, length}
 use Rattle.std.proofs.Common.{nat_lt, ◌≢◌, Contains}
-use Rattle.std.specs.List.{AllByRecursion, find, list_any, range_with_len}
+use Rattle.std.proofs.Common.{map, max, fold, sum_by, ltb-true, lt-ltb}
+use Rattle.std.proofs.Math.Bool.{or_assoc, or-false}
+use Rattle.std.specs.List.{find, list_any, range_with_len}
+use Rattle.std.proofs.lemmas.List.Sums.{sum_by-cons}
 use Rattle.std.proofs.lemmas.List.{reverse-append}
-use Rattle.sp_lists.proofs.Elements.{range_snoc, or_split}
+use Rattle.sp_lists.proofs.Elements.{range_snoc, or_split, le_or_lt}
 use Rattle.sp_shapes.proofs.Listing.{Occurs}
 
 -- the greatest number that passes is the last, or the greatest of the others
@@ -13,6 +16,42 @@ pub find_down : (p : ℕ → Bool) (t : ℕ) →
 find_down p t =
     ap (λ xs. find p (reverse xs)) (range_snoc 0 t ∙ ap (λ n. range_with_len 0 t ++ (n ∷ [])) (zero-add t))
     ∙ ap (find p) (reverse-append (range_with_len 0 t) (t ∷ []))
+
+pub find_down_none : (p : ℕ → Bool) (t : ℕ) → ((i : ℕ) → i < t → p i ≡ false) →
+    find p (reverse (range_with_len 0 t)) ≡ None
+find_down_none p zero f = refl
+find_down_none p (suc t) f =
+    find_down p t
+    ∙ ap (λ b. cond b (Some t) (find p (reverse (range_with_len 0 t)))) (f t (omega arith))
+    ∙ find_down_none p t (λ i lt. f i (omega (arith, lt)))
+
+pub none_below : (p : ℕ → Bool) (t : ℕ) → find p (reverse (range_with_len 0 t)) ≡ None → (i : ℕ) → i < t →
+    p i ≡ false
+none_below p zero h i lt = absurd (omega arith)
+none_below p (suc t) h i lt = tested (none_below p t) (p t) refl (sym (find_down p t) ∙ h) (eq-or-lt_of_le lt)
+  where
+    tested : (find p (reverse (range_with_len 0 t)) ≡ None → (i : ℕ) → i < t → p i ≡ false) → (b : Bool) → p t ≡ b →
+        cond b (Some t) (find p (reverse (range_with_len 0 t))) ≡ None → (suc i ≡ suc t) ⊎ (suc i < suc t) →
+        p i ≡ false
+    tested ih true e w o = absurd (cc)
+    tested ih false e w (inl s) = let same : i ≡ t = omega (arith, s) in ap p same ∙ e
+    tested ih false e w (inr l) = ih w i (omega (arith, l))
+
+-- the number that is found: it passes, and none between passes
+pub find_down_some : (p : ℕ → Bool) (t j : ℕ) → j < t → p j ≡ true → ((i : ℕ) → j < i → i < t → p i ≡ false) →
+    find p (reverse (range_with_len 0 t)) ≡ Some j
+find_down_some p zero j lt h f = absurd (omega arith)
+find_down_some p (suc t) j lt h f = find_down p t ∙ settle (find_down_some p t j) (eq-or-lt_of_le lt)
+  where
+    settle : (j < t → p j ≡ true → ((i : ℕ) → j < i → i < t → p i ≡ false) →
+        find p (reverse (range_with_len 0 t)) ≡ Some j) → (suc j ≡ suc t) ⊎ (suc j < suc t) →
+        cond (p t) (Some t) (find p (reverse (range_with_len 0 t))) ≡ Some j
+    settle ih (inl s) =
+        let same : j ≡ t = omega (arith, s) in
+        ap (λ b. cond b (Some t) (find p (reverse (range_with_len 0 t)))) (ap p (sym same) ∙ h) ∙ ap Some (sym same)
+    settle ih (inr l) =
+        ap (λ b. cond b (Some t) (find p (reverse (range_with_len 0 t)))) (f t (omega (arith, l)) (omega arith))
+        ∙ ih (omega (arith, l)) h (λ i lo hi. f i lo (omega (arith, hi)))
 
 -- what is kept from a place on is the element there, if it is kept, and what is kept from the next place on
 pub filter-drop : {X : Type 0} (p : X → Bool) (xs : List X) (t : ℕ) (d : X) → p d ≡ false →
@@ -25,15 +64,23 @@ filter-drop p (x ∷ xs) (suc t) d h = filter-drop p xs t d h
 
 -- ---- tests of some element
 
+pub true_or : (a b : Bool) → a ≡ true → (a || b) ≡ true
+true_or a b h = ap (λ c. c || b) h
+
+pub or_true : (a b : Bool) → b ≡ true → (a || b) ≡ true
+or_true true b h = refl
+or_true false b h = h
+
+-- neither is true
+pub or_fits : (a b : Bool) → (a || b) ≡ false → (a ≡ false) × (b ≡ false)
+or_fits true b h = absurd (cc)
+or_fits false b h = (refl, h)
+
 -- an element that passes
 pub some_passes : {X : Type 0} (p : X → Bool) (x : X) (xs : List X) → Occurs x xs → p x ≡ true → list_any p xs ≡ true
 some_passes p x [] o h = absurd o
-some_passes p x (y ∷ xs) (inl e) h = ap (λ b. b || list_any p xs) (ap p (sym e) ∙ h)
-some_passes p x (y ∷ xs) (inr o) h = ap (λ b. p y || b) (some_passes p x xs o h) ∙ or_true (p y)
-  where
-    or_true : (b : Bool) → (b || true) ≡ true
-    or_true true = refl
-    or_true false = refl
+some_passes p x (y ∷ xs) (inl e) h = true_or (p y) (list_any p xs) (ap p (sym e) ∙ h)
+some_passes p x (y ∷ xs) (inr o) h = or_true (p y) (list_any p xs) (some_passes p x xs o h)
 
 -- is there, where the test is true, with what holds of all
 pub passing : {X : Type 0} (p : X → Bool) (xs : List X) → list_any p xs ≡ true →
@@ -95,3 +142,91 @@ has_element (x ∷ xs) ne = grind arith
 pub no_element : {X : Type 0} (xs : List X) → nat_lt 0 (length xs) ≡ false → xs ≡ []
 no_element [] h = refl
 no_element (x ∷ xs) h = absurd (let w : nat_lt 0 (length (x ∷ xs)) ≡ true = grind arith in cc)
+
+-- ---- a list about one of its places
+
+pub record IsPlace {X : Type 0} (xs : List X) (i : ℕ) : Type 0 where
+  pub element : X
+  pub lower : List X
+  pub later : List X
+  pub place : length lower ≡ i
+  pub whole : xs ≡ lower ++ (element ∷ later)
+
+pub place_of : {X : Type 0} (xs : List X) (i : ℕ) → i < length xs → IsPlace xs i
+place_of [] i h = absurd (omega arith)
+place_of (x ∷ xs) zero h = record { element = x; lower = []; later = xs; place = refl; whole = refl }
+place_of {X} (x ∷ xs) (suc i) h = more (place_of xs i (omega arith))
+  where
+    more : IsPlace xs i → IsPlace (x ∷ xs) (suc i)
+    more p = record {
+      element = p.element;
+      lower = x ∷ p.lower;
+      later = p.later;
+      place = ap suc p.place;
+      whole = ap (λ r. x ∷ r) p.whole;
+    }
+
+-- ---- tests of some element, over other lists
+
+pub any_alike : {X : Type 0} (p q : X → Bool) (xs : List X) → ((x : X) → p x ≡ q x) → list_any p xs ≡ list_any q xs
+any_alike p q [] f = refl
+any_alike p q (x ∷ xs) f = ap₂ (λ a b. a || b) (f x) (any_alike p q xs f)
+
+pub any-map : {X Y : Type 0} (p : Y → Bool) (f : X → Y) (xs : List X) →
+    list_any p (map f xs) ≡ list_any (λ x. p (f x)) xs
+any-map p f [] = refl
+any-map p f (x ∷ xs) = ap (λ b. p (f x) || b) (any-map p f xs)
+
+pub none_passes : {X : Type 0} (p : X → Bool) (xs : List X) → ((x : X) → Occurs x xs → p x ≡ false) →
+    list_any p xs ≡ false
+none_passes p [] f = refl
+none_passes p (x ∷ xs) f = ap₂ (λ a b. a || b) (f x (inl refl)) (none_passes p xs (λ y o. f y (inr o)))
+
+-- ---- the greatest number is past a bound where one of them is
+
+pub past_max : (b m n : ℕ) → nat_lt b (max m n) ≡ (nat_lt b m || nat_lt b n)
+past_max b m n = same_tests (nat_lt b (max m n)) (nat_lt b m || nat_lt b n)
+    (λ h. settle (ltb-true b (max m n) h) (le_or_lt m b))
+    (λ h. back (or_split (nat_lt b m) (nat_lt b n) h))
+  where
+    settle : b < max m n → (m ≤ b) ⊎ (b < m) → (nat_lt b m || nat_lt b n) ≡ true
+    settle h (inl le) = or_true (nat_lt b m) (nat_lt b n) (lt-ltb b n (omega (arith, h, le)))
+    settle h (inr lt) = true_or (nat_lt b m) (nat_lt b n) (lt-ltb b m lt)
+
+    back : (nat_lt b m ≡ true) ⊎ (nat_lt b n ≡ true) → nat_lt b (max m n) ≡ true
+    back (inl h) = lt-ltb b (max m n) (omega (arith, ltb-true b m h))
+    back (inr h) = lt-ltb b (max m n) (omega (arith, ltb-true b n h))
+
+fold_past : (b start : ℕ) (xs : List ℕ) → nat_lt b (fold max start xs) ≡ (nat_lt b start || list_any (nat_lt b) xs)
+fold_past b start [] = sym (or-false (nat_lt b start))
+fold_past b start (x ∷ xs) =
+    fold_past b (max start x) xs
+    ∙ ap (λ t. t || list_any (nat_lt b) xs) (past_max b start x)
+    ∙ or_assoc (nat_lt b start) (nat_lt b x) (list_any (nat_lt b) xs)
+
+pub greatest_past : (b : ℕ) (xs : List ℕ) → nat_lt b (fold max 0 xs) ≡ list_any (nat_lt b) xs
+greatest_past b xs = fold_past b 0 xs ∙ ap (λ t. t || list_any (nat_lt b) xs) (nothing b)
+  where
+    nothing : (b : ℕ) → nat_lt b 0 ≡ false
+    nothing b = grind arith
+
+-- ---- the elements from a place on
+
+pub occurs_drop : {X : Type 0} (x : X) (t : ℕ) (xs : List X) → Occurs x (drop t xs) → Occurs x xs
+occurs_drop x zero [] o = o
+occurs_drop x (suc t) [] o = o
+occurs_drop x zero (y ∷ xs) o = o
+occurs_drop x (suc t) (y ∷ xs) o = inr (occurs_drop x t xs o)
+
+-- what passes a test from a place on sums to no more than all that passes
+pub sum_drop : {X : Type 0} (p : X → Bool) (f : X → ℕ) (t : ℕ) (xs : List X) →
+    sum_by f (filter p (drop t xs)) ≤ sum_by f (filter p xs)
+sum_drop p f zero [] = omega arith
+sum_drop p f (suc t) [] = omega arith
+sum_drop p f zero (y ∷ xs) = omega arith
+sum_drop {X} p f (suc t) (y ∷ xs) = tested (p y) (sum_drop p f t xs)
+  where
+    tested : (b : Bool) → sum_by f (filter p (drop t xs)) ≤ sum_by f (filter p xs) →
+        sum_by f (filter p (drop t xs)) ≤ sum_by f (cond b (y ∷ filter p xs) (filter p xs))
+    tested true ih = omega (arith, ih, sum_by-cons f y (filter p xs))
+    tested false ih = ih
