@@ -1,1 +1,3 @@
 pub mod Existence
+pub mod Positive
+pub mod Strays

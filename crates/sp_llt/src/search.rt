@@ -30,8 +30,10 @@ pub(crate) fn next_share(
         (j : ℕ) × IsLargeLift (vector_of vector.now.entries) regulars.now end limit j }
 {
     for rank in (0..end).rev() {
-        if let Some(alpha) = lift_at(alloc, vector, &regulars[rank], limit)? {
-            return Ok(Some(Share { rank, alpha }));
+        match lift_at(alloc, vector, &regulars[rank], limit) {
+            Ok(Some(alpha)) => return Ok(Some(Share { rank, alpha })),
+            Ok(None) => {}
+            Err(fault) => return Err(fault),
         }
     }
     Ok(None)
@@ -62,10 +64,19 @@ fn lift_at(
 pub(crate) fn stray_in(vector: &Vector, mu: &Partition) -> Option<Partition>
     ensures { result ≡ option_map (λ t. t.0) (find (is_stray_entry mu.now) (reverse vector.now.entries)) }
 {
-    for pair in vector.pairs().iter().rev() {
-        if pair.0 != *mu && !pair.1.in_vzv() {
-            return Some(pair.0);
-        }
-    }
-    None
+    vector
+        .pairs()
+        .iter()
+        .rev()
+        .find(|pair| is_stray(pair, mu))
+        .map(|pair| pair.0)
+}
+
+// Whether this is another partition than `mu`, with a coefficient that isn't in vZ[v].
+fn is_stray(pair: &(Partition, Laurent), mu: &Partition) -> bool
+    ensures { result ≡ is_stray_entry mu.now pair.now }
+{
+    let _held = pair.1.terms();
+    let is_other = pair.0 != *mu;
+    is_other && !pair.1.in_vzv()
 }
