@@ -1,5 +1,5 @@
 -- Totals and the terms of a vector, walked together.
-use Rattle.std.specs.Prelude.{ℕ, zero, suc, ◌+◌, ◌*◌, ◌≤◌, List, [], ◌∷◌, map, filter, nat_lt, pos}
+use Rattle.std.specs.Prelude.{ℕ, ◌+◌, ◌*◌, cond, List, [], ◌∷◌, map, filter, nat_lt}
 use Rattle.sp_defs.specs.Laurent.{Laurent, size}
 use Rattle.sp_defs.specs.Power.{Entries}
 use Rattle.sp_fock_law.specs.Joined.{joined, joint, Joint as JointAt}
@@ -16,10 +16,15 @@ growth_of g = joint g.at (constant g.total) (shown g.term)
 abbrev pub growths_of : Growths → List JointAt
 growths_of w = joined (constants w.totals.now) w.terms.now
 
--- The size that a joint grows to, where the second has a factor of this size.
-abbrev pub grown : ℕ → JointAt → ℕ
-grown factor j = size j.first + factor * size j.second
+-- What a total grows to, where the term has a factor of this size.
+abbrev pub grown_to : ℕ → Growth → ℕ
+grown_to factor g = g.total + factor * size (shown g.term)
+
+-- The list of one total, which is empty where it is 0.
+abbrev pub total_at : List ℕ → ℕ → Totals
+total_at lambda total = cond (nat_lt 0 total) ((lambda, total) ∷ []) []
 
 -- The totals along a walk, without those that are 0.
 abbrev pub grown_along : ℕ → List JointAt → Totals
-grown_along factor js = filter (λ t. nat_lt 0 t.1) (map (λ j. (j.at, grown factor j)) js)
+grown_along factor js =
+    filter (λ t. nat_lt 0 t.1) (map (λ j. (j.at, size j.first + factor * size j.second)) js)

@@ -1,10 +1,9 @@
 // A vector with a total for each partition.
-ghost use Rattle.std.specs.Prelude.{◌≡◌, ◌^◌, ◌<◌, ◌≤◌, ◌↔◌, IsErrOf, IfOk};
+ghost use Rattle.std.specs.Prelude.{◌≡◌, ◌^◌, ◌<◌, ◌≤◌, ◌↔◌, IsErrOf, IsTrue, IfOk};
 ghost use Rattle.std.specs.List.{AllByRecursion};
 ghost use Rattle.sp_defs.specs.Within.{ProductWithin};
 ghost use Rattle.sp_fock_law.specs.Tally.{IsTally, subtracted, subtraction_weight, tally_of, total_of};
 ghost use Rattle.sp_laurent.specs.Held.{power_limit};
-ghost use Rattle.sp_fock.specs.Held.{IsHeld};
 
 use crate::totals::{grown_totals, sizes_of, totals_fit};
 use crate::{FockFault, Vector};
@@ -56,12 +55,38 @@ impl Tally {
         ensures ok { IfOk result (λ t. t ≡ subtracted self a.now w.now) }
         ensures too_large { IsErrOf result FockFault.TooLarge ↔ (limit < subtraction_weight self a.now w.now) }
     {
-        let Tally { vector, totals } = self;
-        let factor = a.size();
-        if !totals_fit(&totals, factor, w.pairs(), limit) {
+        if !self.can_subtract(a, w, limit) {
             return Err(FockFault::TooLarge);
         }
-        let grown = grown_totals(alloc, &totals, factor, w.pairs(), limit)?;
+        self.left(alloc, a, w, limit)
+    }
+
+    // Whether no total grows past the limit.
+    fn can_subtract(&self, a: &Laurent, w: &Vector, limit: u128) -> bool
+        requires { self.now.vector.degree ≡ w.now.degree }
+        ensures { IsTrue result ↔ (subtraction_weight self.now a.now w.now ≤ limit) }
+    {
+        totals_fit(&self.totals, a.size(), w.pairs(), limit)
+    }
+
+    // This without `a` times `w`.
+    fn left(
+        self,
+        alloc: Global,
+        a: &Laurent,
+        w: &Vector,
+        limit: u128,
+    ) -> Result<Tally, FockFault>
+        requires one_degree { self.vector.degree ≡ w.now.degree }
+        requires least { 1 ≤ limit }
+        requires most { limit < 2 ^ 127 }
+        requires within { AllByRecursion (λ t. ProductWithin power_limit a.now t.1) w.now.entries }
+        requires fits { subtraction_weight self a.now w.now ≤ limit }
+        ensures left { IfOk result (λ t. t ≡ subtracted self a.now w.now) }
+        ensures fits { ¬ IsErrOf result FockFault.TooLarge }
+    {
+        let Tally { vector, totals } = self;
+        let grown = grown_totals(alloc, &totals, a.size(), w.pairs(), limit)?;
         let mut left = vector;
         left.add_scaled(alloc, &a.negate(alloc)?, w, limit)?;
         Ok(Tally {
@@ -73,7 +98,6 @@ impl Tally {
     /// The vector.
     pub fn vector(&self) -> &Vector
         ensures value { result.now ≡ self.now.vector }
-        ensures held { IsHeld self.now.vector }
         ensures tally { IsTally self.now }
     {
         &self.vector

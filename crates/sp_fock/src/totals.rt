@@ -1,11 +1,12 @@
 // Totals by partitions, and how they grow where a multiple of a vector is added or subtracted.
-ghost use Rattle.std.specs.Prelude.{◌≡◌, [], ◌+◌, ◌*◌, ◌^◌, ◌<◌, ◌≤◌, ◌↔◌, ◌∷◌, map, IsTrue, IfNone, IfSome, IfOk};
+ghost use Rattle.std.specs.Prelude.{◌≡◌, [], ◌+◌, ◌*◌, ◌^◌, ◌<◌, ◌≤◌, ◌↔◌, ◌∷◌, ◌++◌, map, IsTrue, IfNone};
+ghost use Rattle.std.specs.Prelude.{IfSome, IfOk, OnOk};
 ghost use Rattle.std.specs.Iterator.{item_count, YieldsFirstBy};
 ghost use Rattle.std.specs.List.{AllByRecursion};
 ghost use Rattle.sp_defs.specs.Laurent.{size};
 ghost use Rattle.sp_fock_law.specs.Joined.{joint, joined};
 ghost use Rattle.sp_fock_law.specs.Tally.{constant, constants};
-ghost use Rattle.sp_fock.specs.Growth.{grown, grown_along, growth_of, growths_of};
+ghost use Rattle.sp_fock.specs.Growth.{grown_along, grown_to, growth_of, growths_of, total_at};
 ghost use Rattle.sp_fock.specs.Sum.{AllFit};
 
 use sp_laurent::Laurent;
@@ -24,19 +25,20 @@ pub(crate) struct Growth<'a> {
 impl<'a> Growth<'a> {
     // Whether the total stays within the limit, where a factor of this size multiplies the term.
     fn fits(&self, factor: u128, limit: u128) -> bool
-        ensures { IsTrue result ↔ (grown factor (growth_of self.now) ≤ limit) }
+        ensures { IsTrue result ↔ (grown_to factor self.now ≤ limit) }
     {
+        let total = self.total;
         let term = self.term.map_or(0, Laurent::size);
         factor
             .checked_mul(term)
-            .and_then(|product| product.checked_add(self.total))
+            .and_then(|product| product.checked_add(total))
             .is_some_and(|sum| sum <= limit)
     }
 
     // What the total grows to.
     fn grown(&self, factor: u128) -> u128
-        requires { grown factor (growth_of self.now) < 2 ^ 127 }
-        ensures { result ≡ grown factor (growth_of self.now) }
+        requires { grown_to factor self.now < 2 ^ 127 }
+        ensures { result ≡ grown_to factor self.now }
     {
         match self.term {
             Some(term) => self.total + factor * term.size(),
@@ -164,6 +166,16 @@ pub(crate) fn totals_fit(
     true
 }
 
+// Appends a total, unless it is 0.
+fn push_total(totals: &mut Vec<(Partition, u128)>, at: Partition, total: u128) -> Result<(), AllocError>
+    ensures { OnOk result (totals.new.items ≡ totals.old.items ++ total_at at total) }
+{
+    if total > 0 {
+        totals.push((at, total))?;
+    }
+    Ok(())
+}
+
 /// The totals, each grown by `factor` times the size of the term there.
 pub(crate) fn grown_totals(
     alloc: Global,
@@ -178,10 +190,7 @@ pub(crate) fn grown_totals(
 {
     let mut sums = Vec::new(alloc);
     for growth in (Growths { totals, terms }) {
-        let sum = growth.grown(factor);
-        if sum > 0 {
-            sums.push((growth.at, sum))?;
-        }
+        push_total(&mut sums, growth.at, growth.grown(factor))?;
     }
     Ok(sums)
 }
