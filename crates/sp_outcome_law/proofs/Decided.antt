@@ -1,22 +1,24 @@
 -- When the outcome is decided: it is too large exactly where something is past the limit once all shares are given, and
 -- what is past the limit earlier stays so.
-use Rattle.std.proofs.Common.{◌≡◌, ℕ, ◌+◌, ◌*◌, ◌<◌, ◌≤◌, Bool, true, false, cond, ◌||◌, nat_lt, max, fold, List, [], ◌∷◌}
-use Rattle.std.proofs.Common.{map, filter, refl, sym, ◌∙◌, ap, ap₂, subst, arith, sum_by, Option, Some, None, ◌⊎◌, inl, inr}
+use Rattle.std.proofs.Common.{◌≡◌, ℕ, ◌+◌, ◌*◌, ◌<◌, ◌≤◌, Bool, true, false, cond, ◌||◌, nat_lt, List}
+use Rattle.std.proofs.Common.{map, refl, sym, ◌∙◌, ap, ap₂, subst, arith, sum_by, Option, Some, None, ◌⊎◌, inl, inr}
 use Rattle.std.proofs.Common.{length, ltb-true, lt-ltb, ltb-false, le-ltb, drop}
 use Rattle.std.proofs.Math.Bool.{or-false}
 use Rattle.std.specs.List.{list_any}
 use Rattle.sp_defs.specs.Partition.{degree, partitions, IsPartitionOf}
-use Rattle.sp_defs.specs.Laurent.{Laurent, size, one}
+use Rattle.sp_defs.specs.Laurent.{Laurent, size}
 use Rattle.sp_defs.specs.Power.{greatest}
 use Rattle.sp_defs.specs.Ladder.{ladder_vector, ladder_weight, steps}
-use Rattle.sp_defs.specs.Row.{Factors, earlier, regular_row, shares, needed, weight, stray, outcome, Outcome, TooLarge, Stray, Row}
+use Rattle.sp_defs.specs.Row.{Factors, earlier, regular_row, shares, needed, weight, stray, outcome, Outcome, TooLarge}
+use Rattle.sp_defs.specs.Row.{Stray, Row}
 use Rattle.sp_defs.specs.Statements.{IsLabel}
 use Rattle.sp_lists.proofs.Elements.{or_split}
 use Rattle.sp_shapes.proofs.Listing.{Occurs, at_occurs, occurs_filter, each_partition, all_partitions}
 use Rattle.sp_ladder_law.proofs.Weights.{partial_whole, within_weight, degree_after_all}
 use Rattle.sp_outcome_law.specs.Asking.{is_nonzero, share_at, given, next_rank, total, is_too_large, given_past}
-use Rattle.sp_outcome_law.specs.Asking.{total_past, share_past, is_past, asked}
-use Rattle.sp_outcome_law.proofs.Listed.{any_alike, any-map, past_max, greatest_past, true_or, or_true}
+use Rattle.sp_outcome_law.specs.Asking.{total_past, share_past, is_past}
+use Rattle.sp_outcome_law.proofs.Listed.{any_alike, any-map, true_or, or_true}
+use Rattle.sp_outcome_law.proofs.Exceeding.{past_max, greatest_past}
 use Rattle.sp_outcome_law.proofs.Listed.{some_passes, passing, from_filter, occurs_drop, sum_drop, none_passes, or_fits}
 use Rattle.sp_outcome_law.proofs.Reached.{Passed, all_passed, given_none, step, next_zero}
 use Rattle.sp_outcome_law.proofs.Ranks.{length_shares}
@@ -83,6 +85,14 @@ unfolding total given
 all_sizes e mu lambda =
     ap (λ n. size (ladder_vector e mu lambda) + n)
     (sym (sum_nonzero (λ nu. size (regular_row e nu lambda)) (shares e mu)))
+
+-- by the greatest total
+pub total_past_by : (e limit : ℕ) (mu : List ℕ) (t : ℕ) →
+    total_past e limit mu t ≡ nat_lt limit (greatest (map (total e mu t) (partitions (degree mu))))
+unfolding total_past
+total_past_by e limit mu t = sym
+    (greatest_past limit (map (total e mu t) (partitions (degree mu)))
+    ∙ any-map (nat_lt limit) (total e mu t) (partitions (degree mu)))
 
 weight_past : (e limit : ℕ) (mu : List ℕ) →
     nat_lt limit (weight e mu) ≡ (nat_lt limit (ladder_weight e mu) || total_past e limit mu 0)
@@ -269,7 +279,8 @@ module _ (e limit : ℕ) (mu : List ℕ) (is : IsLabel e mu) where
       is_past e limit mu t ≡ (nat_lt limit (ladder_weight e mu) || share_past e limit mu (next_rank e mu t))
   unfolding is_past given_past total_past
   past_start t h =
-      ap (λ fs. ladder || (list_any test fs || (totals || share))) (given_none e mu t (omega (arith, h, length_shares e mu)))
+      ap (λ fs. ladder || (list_any test fs || (totals || share)))
+      (given_none e mu t (omega (arith, h, length_shares e mu)))
       ∙ covered ladder totals share within
     where
       ladder : Bool
@@ -295,7 +306,8 @@ module _ (e limit : ℕ) (mu : List ℕ) (is : IsLabel e mu) where
       within : ladder ≡ false → totals ≡ false
       within w = none_passes (λ lambda. nat_lt limit (total e mu t lambda)) (partitions (degree mu))
           (λ lambda o. ap (nat_lt limit) (total_start e mu t h lambda)
-          ∙ le-ltb limit (size (ladder_vector e mu lambda)) (ladder_size lambda o (ltb-false limit (ladder_weight e mu) w)))
+          ∙ le-ltb limit (size (ladder_vector e mu lambda))
+          (ladder_size lambda o (ltb-false limit (ladder_weight e mu) w)))
 
       covered : (a b c : Bool) → (a ≡ false → b ≡ false) → (a || (b || c)) ≡ (a || c)
       covered true b c f = refl

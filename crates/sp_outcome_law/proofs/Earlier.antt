@@ -1,6 +1,6 @@
 -- The partitions in a regular row, other than its own, are earlier: each is dominated by an e-regular one that is mu or
 -- earlier, and dominance implies the lexicographic order.
-use Rattle.std.proofs.Common.{◌≡◌, ◌≢◌, ℕ, suc, ◌<◌, ◌≤◌, List, [], ◌∷◌, ◌++◌, map, take, refl, sym, ◌∙◌, ap, subst}
+use Rattle.std.proofs.Common.{◌≡◌, ◌≢◌, ℕ, suc, ◌<◌, ◌≤◌, List, [], ◌∷◌, take, refl, sym, ◌∙◌, ap, subst}
 use Rattle.std.proofs.Common.{arith, sum, ◌⊎◌, inl, inr, Ordering, Less, Equal, Greater, nat_cmp}
 use Rattle.std.specs.List.{AllByRecursion}
 use Rattle.std.specs.Ordering.{MatchOrdering, ordering_then, ordering_reverse}
@@ -10,7 +10,7 @@ use Rattle.std.proofs.lemmas.Cmp.{nat_list_cmp_total}
 use Rattle.sp_defs.specs.Partition.{degree, regulars, IsPartition, IsRegularOf, Dominates, compare}
 use Rattle.sp_defs.specs.Laurent.{Laurent, times}
 use Rattle.sp_defs.specs.Ladder.{ladder_vector}
-use Rattle.sp_defs.specs.Row.{Factors, combination, factors, earlier, regular_row}
+use Rattle.sp_defs.specs.Row.{combination, factors, earlier, regular_row}
 use Rattle.sp_defs.specs.Statements.{IsLabel}
 use Rattle.sp_lists.proofs.Elements.{all_append, all_both}
 use Rattle.sp_algebra.proofs.Laws.{times_nought}

@@ -2,7 +2,7 @@
 use Rattle.std.proofs.Common.{◌≡◌, [], ◌∷◌, refl, pos, true, false, Some, None}
 use Rattle.sp_defs.specs.Partition.{partitions, partitions_within, regulars}
 use Rattle.sp_defs.specs.Node.{nodes_from}
-use Rattle.sp_defs.specs.Laurent.{add_term, collect, plus, negate, products, times, lift, int_sum, sum_over, one, power}
+use Rattle.sp_defs.specs.Laurent.{add_term, collect, plus, negate, products, times, lift, int_sum, sum_over}
 use Rattle.sp_defs.specs.Power.{is_move, exponent, sources, vector_of}
 use Rattle.sp_defs.specs.Ladder.{on_ladder, ladders, steps, chains_to, chain_exponent, chain_sum, ladder_vector}
 use Rattle.sp_defs.specs.Ladder.{partial_ladder_vector, ladder_weight}
@@ -80,3 +80,20 @@ unfolding given shares shares_over factors combination lift negate times product
     ladder_vector chain_sum chains_to chain_exponent steps ladders on_ladder sources is_move exponent
     partitions partitions_within nodes_from sum_over plus collect add_term int_sum
 given_7 = refl
+
+-- the limit 5 is passed once both are given, the limit 6 is not
+pub past_7 : is_past 2 5 (7 ∷ []) 0 ≡ true
+unfolding asked is_past share_past total_past given_past total left given share_at next_rank
+    outcome needed_among vector_of weight ladder_weight partial_ladder_vector shares shares_over
+    regular_row factors combination lift negate times products regulars
+    ladder_vector chain_sum chains_to chain_exponent steps ladders on_ladder sources is_move exponent
+    partitions partitions_within nodes_from sum_over plus collect add_term int_sum
+past_7 = refl
+
+pub within_7 : is_past 2 6 (7 ∷ []) 0 ≡ false
+unfolding asked is_past share_past total_past given_past total left given share_at next_rank
+    outcome needed_among vector_of weight ladder_weight partial_ladder_vector shares shares_over
+    regular_row factors combination lift negate times products regulars
+    ladder_vector chain_sum chains_to chain_exponent steps ladders on_ladder sources is_move exponent
+    partitions partitions_within nodes_from sum_over plus collect add_term int_sum
+within_7 = refl

@@ -1,28 +1,29 @@
 -- The share at a rank is the lift of what is left at its partition, once the later shares have been given. So a search
 -- downwards for the first lift that isn't 0 finds the next rank.
-use Rattle.std.proofs.Common.{◌≡◌, ◌≢◌, ℕ, zero, suc, ◌+◌, ◌<◌, ◌≤◌, Bool, true, false, cond, nat_lt, List, [], ◌∷◌, ◌++◌}
-use Rattle.std.proofs.Common.{length, map, get_or, drop, refl, sym, ◌∙◌, ap, ap₂, subst, arith, Option, Some, None, filter}
+use Rattle.std.proofs.Common.{◌≡◌, ◌≢◌, ℕ, zero, suc, ◌<◌, ◌≤◌, Bool, true, false, cond, nat_lt, List, [], ◌∷◌, ◌++◌}
+use Rattle.std.proofs.Common.{length, get_or, drop, refl, sym, ◌∙◌, ap, ap₂, subst, arith, Some, None, filter}
 use Rattle.std.proofs.Common.{reverse, Less}
 use Rattle.std.specs.List.{AllByRecursion, find, range_with_len}
 use Rattle.sp_defs.specs.Partition.{degree, regulars, compare, Ascending, IsRegularOf}
 use Rattle.sp_defs.specs.Laurent.{Laurent, plus, negate, times, lift}
 use Rattle.sp_defs.specs.Power.{Vector}
 use Rattle.sp_defs.specs.Ladder.{ladder_vector}
-use Rattle.sp_defs.specs.Row.{Factors, combination, before, earlier, factors, factor_of, regular_row, shares, shares_over}
+use Rattle.sp_defs.specs.Row.{Factors, combination, before, earlier, factors, regular_row, shares, shares_over}
 use Rattle.sp_defs.specs.Statements.{IsLabel}
 use Rattle.sp_lists.proofs.Elements.{all_every, all_both, all_left, all_right}
 use Rattle.sp_algebra.proofs.Sums.{sum_over-alike}
 use Rattle.sp_shapes.proofs.Order.{all_mono}
 use Rattle.sp_shapes.proofs.Before.{before_before, all_before, all_kept, Ascending-before}
 use Rattle.sp_shapes.proofs.Listing.{all_regulars, regulars_ascend}
-use Rattle.sp_triangle.proofs.Triangle.{Triangle}
 use Rattle.sp_triangle.proofs.Shares.{rows, keys-shares, from_keys}
 use Rattle.sp_triangle.proofs.NextShare.{share_of, next_share}
 use Rattle.sp_row_law.proofs.RowsLaw.{ladder_triangle, IsLaurent-ladder_vector}
 use Rattle.sp_outcome_law.specs.Asking.{is_nonzero, share_at, given, next_rank, left}
-use Rattle.sp_outcome_law.proofs.Listed.{find_down, find_down_none, find_down_some, none_below, IsPlace, place_of, no_element, has_element}
+use Rattle.sp_outcome_law.proofs.Listed.{IsPlace, place_of}
+use Rattle.sp_outcome_law.proofs.Downwards.{find_down, find_down_none, find_down_some, none_below}
+use Rattle.sp_outcome_law.proofs.Listed.{no_element, has_element}
 use Rattle.sp_outcome_law.proofs.Reached.{next_at, next_zero, Passed, passed_more, passed_start, step}
-use Rattle.sp_outcome_law.proofs.Ranks.{label_regular, length_shares, earlier_at}
+use Rattle.sp_outcome_law.proofs.Ranks.{label_regular, earlier_at}
 use Rattle.sp_outcome_law.proofs.Left.{combination_nonzero, left_same}
 
 -- ---- an ascending list in two parts

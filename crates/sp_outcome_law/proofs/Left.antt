@@ -1,7 +1,8 @@
 -- What is left of the ladder vector, and the sizes added up: at the start, from rank to rank, and at the end, where the
 -- regular row is left.
-use Rattle.std.proofs.Common.{◌≡◌, ℕ, ◌+◌, ◌*◌, ◌≤◌, Bool, true, false, cond, nat_lt, List, [], ◌∷◌, length, refl, sym, ◌∙◌}
-use Rattle.std.proofs.Common.{ap, arith, Option, Some, None, filter, sum_by, ℤ, ◌+ℤ◌}
+use Rattle.std.proofs.Common.{◌≡◌, ℕ, ◌+◌, ◌*◌, ◌≤◌, Bool, true, false, cond, nat_lt, List, [], ◌∷◌, length, refl, sym}
+use Rattle.std.proofs.Common.{◌∙◌}
+use Rattle.std.proofs.Common.{ap, arith, Some, None, filter, sum_by, ℤ}
 use Rattle.std.proofs.lemmas.Int.{ints}
 use Rattle.std.proofs.lemmas.List.Sums.{sum_by-cons}
 use Rattle.sp_defs.specs.Laurent.{Laurent, coefficient, collect, plus, negate, times, sum_over, size, IsLaurent}
@@ -16,7 +17,7 @@ use Rattle.sp_triangle.proofs.Triangle.{combination-cons, IsLaurent-combination}
 use Rattle.sp_row_law.proofs.RowsLaw.{rows_law, IsLaurent-ladder_vector}
 use Rattle.sp_outcome_law.specs.Asking.{is_nonzero, share_at, given, next_rank, left, total}
 use Rattle.sp_outcome_law.proofs.Listed.{no_element}
-use Rattle.sp_outcome_law.proofs.Reached.{given_none, Passed, IsStep, step, all_passed}
+use Rattle.sp_outcome_law.proofs.Reached.{given_none, Passed, step, all_passed}
 use Rattle.sp_outcome_law.proofs.Ranks.{length_shares}
 
 -- ---- what they give is a polynomial

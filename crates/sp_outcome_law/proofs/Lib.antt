@@ -1,5 +1,7 @@
 pub mod Examples
 pub mod Listed
+pub mod Downwards
+pub mod Exceeding
 pub mod Reached
 pub mod Ranks
 pub mod Needed
@@ -8,4 +10,5 @@ pub mod Finding
 pub mod Splitting
 pub mod Next
 pub mod Decided
+pub mod Asked
 pub mod Earlier

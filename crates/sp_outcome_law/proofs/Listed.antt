@@ -1,57 +1,13 @@
--- Lists by places: a search downwards, what a filter keeps from a place on, and tests of some element.
-use Rattle.std.proofs.Common.{◌≡◌, ℕ, zero, suc, ◌+◌, Bool, true, false, cond, ◌||◌, List, [], ◌∷◌, ◌++◌, filter, drop}
-use Rattle.std.proofs.Common.{get_or, reverse, refl, sym, ◌∙◌, ap, ap₂, arith, zero-add, Some, None, eq-or-lt_of_le, ◌≤◌, ◌<◌, ◌⊎◌, inl, inr, length}
+-- Lists by their elements and places: what a filter keeps from a place on, tests of some element, and occurrences.
+use Rattle.std.proofs.Common.{◌≡◌, ℕ, zero, suc, Bool, true, false, cond, ◌||◌, List, [], ◌∷◌, ◌++◌, filter, drop}
+use Rattle.std.proofs.Common.{get_or, refl, sym, ◌∙◌, ap, ap₂, arith}
+use Rattle.std.proofs.Common.{◌≤◌, ◌<◌, ◌⊎◌, inl, inr, length}
 use Rattle.std.proofs.Common.{nat_lt, ◌≢◌, Contains}
-use Rattle.std.proofs.Common.{map, max, fold, sum_by, ltb-true, lt-ltb}
-use Rattle.std.proofs.Math.Bool.{or_assoc, or-false}
-use Rattle.std.specs.List.{find, list_any, range_with_len}
+use Rattle.std.proofs.Common.{map, sum_by}
+use Rattle.std.specs.List.{list_any}
 use Rattle.std.proofs.lemmas.List.Sums.{sum_by-cons}
-use Rattle.std.proofs.lemmas.List.{reverse-append}
-use Rattle.sp_lists.proofs.Elements.{range_snoc, or_split, le_or_lt}
+use Rattle.sp_lists.proofs.Elements.{or_split}
 use Rattle.sp_shapes.proofs.Listing.{Occurs}
-
--- the greatest number that passes is the last, or the greatest of the others
-pub find_down : (p : ℕ → Bool) (t : ℕ) →
-    find p (reverse (range_with_len 0 (suc t))) ≡ cond (p t) (Some t) (find p (reverse (range_with_len 0 t)))
-find_down p t =
-    ap (λ xs. find p (reverse xs)) (range_snoc 0 t ∙ ap (λ n. range_with_len 0 t ++ (n ∷ [])) (zero-add t))
-    ∙ ap (find p) (reverse-append (range_with_len 0 t) (t ∷ []))
-
-pub find_down_none : (p : ℕ → Bool) (t : ℕ) → ((i : ℕ) → i < t → p i ≡ false) →
-    find p (reverse (range_with_len 0 t)) ≡ None
-find_down_none p zero f = refl
-find_down_none p (suc t) f =
-    find_down p t
-    ∙ ap (λ b. cond b (Some t) (find p (reverse (range_with_len 0 t)))) (f t (omega arith))
-    ∙ find_down_none p t (λ i lt. f i (omega (arith, lt)))
-
-pub none_below : (p : ℕ → Bool) (t : ℕ) → find p (reverse (range_with_len 0 t)) ≡ None → (i : ℕ) → i < t →
-    p i ≡ false
-none_below p zero h i lt = absurd (omega arith)
-none_below p (suc t) h i lt = tested (none_below p t) (p t) refl (sym (find_down p t) ∙ h) (eq-or-lt_of_le lt)
-  where
-    tested : (find p (reverse (range_with_len 0 t)) ≡ None → (i : ℕ) → i < t → p i ≡ false) → (b : Bool) → p t ≡ b →
-        cond b (Some t) (find p (reverse (range_with_len 0 t))) ≡ None → (suc i ≡ suc t) ⊎ (suc i < suc t) →
-        p i ≡ false
-    tested ih true e w o = absurd (cc)
-    tested ih false e w (inl s) = let same : i ≡ t = omega (arith, s) in ap p same ∙ e
-    tested ih false e w (inr l) = ih w i (omega (arith, l))
-
--- the number that is found: it passes, and none between passes
-pub find_down_some : (p : ℕ → Bool) (t j : ℕ) → j < t → p j ≡ true → ((i : ℕ) → j < i → i < t → p i ≡ false) →
-    find p (reverse (range_with_len 0 t)) ≡ Some j
-find_down_some p zero j lt h f = absurd (omega arith)
-find_down_some p (suc t) j lt h f = find_down p t ∙ settle (find_down_some p t j) (eq-or-lt_of_le lt)
-  where
-    settle : (j < t → p j ≡ true → ((i : ℕ) → j < i → i < t → p i ≡ false) →
-        find p (reverse (range_with_len 0 t)) ≡ Some j) → (suc j ≡ suc t) ⊎ (suc j < suc t) →
-        cond (p t) (Some t) (find p (reverse (range_with_len 0 t))) ≡ Some j
-    settle ih (inl s) =
-        let same : j ≡ t = omega (arith, s) in
-        ap (λ b. cond b (Some t) (find p (reverse (range_with_len 0 t)))) (ap p (sym same) ∙ h) ∙ ap Some (sym same)
-    settle ih (inr l) =
-        ap (λ b. cond b (Some t) (find p (reverse (range_with_len 0 t)))) (f t (omega (arith, l)) (omega arith))
-        ∙ ih (omega (arith, l)) h (λ i lo hi. f i lo (omega (arith, hi)))
 
 -- what is kept from a place on is the element there, if it is kept, and what is kept from the next place on
 pub filter-drop : {X : Type 0} (p : X → Bool) (xs : List X) (t : ℕ) (d : X) → p d ≡ false →
@@ -181,34 +137,6 @@ pub none_passes : {X : Type 0} (p : X → Bool) (xs : List X) → ((x : X) → O
     list_any p xs ≡ false
 none_passes p [] f = refl
 none_passes p (x ∷ xs) f = ap₂ (λ a b. a || b) (f x (inl refl)) (none_passes p xs (λ y o. f y (inr o)))
-
--- ---- the greatest number is past a bound where one of them is
-
-pub past_max : (b m n : ℕ) → nat_lt b (max m n) ≡ (nat_lt b m || nat_lt b n)
-past_max b m n = same_tests (nat_lt b (max m n)) (nat_lt b m || nat_lt b n)
-    (λ h. settle (ltb-true b (max m n) h) (le_or_lt m b))
-    (λ h. back (or_split (nat_lt b m) (nat_lt b n) h))
-  where
-    settle : b < max m n → (m ≤ b) ⊎ (b < m) → (nat_lt b m || nat_lt b n) ≡ true
-    settle h (inl le) = or_true (nat_lt b m) (nat_lt b n) (lt-ltb b n (omega (arith, h, le)))
-    settle h (inr lt) = true_or (nat_lt b m) (nat_lt b n) (lt-ltb b m lt)
-
-    back : (nat_lt b m ≡ true) ⊎ (nat_lt b n ≡ true) → nat_lt b (max m n) ≡ true
-    back (inl h) = lt-ltb b (max m n) (omega (arith, ltb-true b m h))
-    back (inr h) = lt-ltb b (max m n) (omega (arith, ltb-true b n h))
-
-fold_past : (b start : ℕ) (xs : List ℕ) → nat_lt b (fold max start xs) ≡ (nat_lt b start || list_any (nat_lt b) xs)
-fold_past b start [] = sym (or-false (nat_lt b start))
-fold_past b start (x ∷ xs) =
-    fold_past b (max start x) xs
-    ∙ ap (λ t. t || list_any (nat_lt b) xs) (past_max b start x)
-    ∙ or_assoc (nat_lt b start) (nat_lt b x) (list_any (nat_lt b) xs)
-
-pub greatest_past : (b : ℕ) (xs : List ℕ) → nat_lt b (fold max 0 xs) ≡ list_any (nat_lt b) xs
-greatest_past b xs = fold_past b 0 xs ∙ ap (λ t. t || list_any (nat_lt b) xs) (nothing b)
-  where
-    nothing : (b : ℕ) → nat_lt b 0 ≡ false
-    nothing b = grind arith
 
 -- ---- the elements from a place on
 

@@ -1,14 +1,12 @@
 -- The list of the needed partitions: it has mu, it is closed under shares, and each of its partitions is needed.
-use Rattle.std.proofs.Common.{◌≡◌, ◌≢◌, ℕ, ◌<◌, Bool, true, false, cond, ◌||◌, nat_lt, List, [], ◌∷◌, ◌++◌, length, map}
-use Rattle.std.proofs.Common.{refl, sym, ◌∙◌, ap, ap₂, subst, arith, ◌⊎◌, inl, inr, ◌↔◌, Less, Contains, filter, is_eq, is_lt, Ordering}
+use Rattle.std.proofs.Common.{◌≡◌, ◌≢◌, ℕ, Bool, true, false, cond, nat_lt, List, [], ◌∷◌, length, map}
+use Rattle.std.proofs.Common.{refl, sym, ◌∙◌, ap, subst, ◌⊎◌, inl, inr, Less, is_eq, is_lt, Ordering}
 use Rattle.std.proofs.Common.{Equal, Greater}
 use Rattle.std.specs.List.{AllByRecursion, list_any}
 use Rattle.sp_defs.specs.Partition.{degree, regulars, compare, Ascending, IsRegularOf}
-use Rattle.sp_defs.specs.Laurent.{Laurent}
 use Rattle.sp_defs.specs.Power.{vector_of}
 use Rattle.sp_defs.specs.Row.{Factors, before, earlier, shares, share, IsNeeded, needed_among, needed}
 use Rattle.sp_defs.specs.Row.IsNeeded.{itself, through}
-use Rattle.sp_defs.specs.Statements.{IsLabel}
 use Rattle.sp_shapes.proofs.Order.{same_lists, equal_self, less_trans}
 use Rattle.sp_shapes.proofs.Before.{all_before, all_kept, before_before, Ascending-before}
 use Rattle.sp_shapes.proofs.Listing.{Occurs, at_occurs, all_regulars, regulars_ascend}

@@ -1,6 +1,6 @@
 -- The partition of the next rank: it is e-regular, earlier than mu, and has mu's content.
 use Rattle.std.proofs.Common.{◌≡◌, ◌≢◌, ℕ, ◌<◌, ◌≤◌, true, false, List, [], length, sym, ◌∙◌, ap, subst, arith, Some}
-use Rattle.std.proofs.Common.{Less, ◌⊎◌, inl, inr, get_or}
+use Rattle.std.proofs.Common.{Less, ◌⊎◌, inl, inr}
 use Rattle.std.proofs.lemmas.List.{get_or_past}
 use Rattle.std.specs.List.{AllByRecursion}
 use Rattle.sp_defs.specs.Partition.{degree, regulars, compare, IsRegularOf}
@@ -17,7 +17,7 @@ use Rattle.sp_row_law.proofs.RowsLaw.{rows_law}
 use Rattle.sp_outcome_law.specs.Asking.{is_nonzero, share_at, next_rank}
 use Rattle.sp_outcome_law.proofs.Listed.{nonempty}
 use Rattle.sp_outcome_law.proofs.Reached.{step}
-use Rattle.sp_outcome_law.proofs.Ranks.{keys, length_shares}
+use Rattle.sp_outcome_law.proofs.Ranks.{keys, length_shares, earlier_at, rank_of, rank_within}
 
 -- a share that isn't 0 has a rank below mu's
 pub below_rank : (e : ℕ) (mu : List ℕ) (j : ℕ) → is_nonzero (share_at e mu j) ≡ true → j < length (earlier e mu)
@@ -42,6 +42,17 @@ content_at : (e : ℕ) (mu : List ℕ) → IsLabel e mu → (j : ℕ) → j < le
 unfolding share_at
 content_at e mu is j lt = all_at (λ a. a.1 ≢ [] → SameContent e mu a.0) (shares e mu) j ([], [])
     (row_content_law e mu is).shares_at (omega (arith, lt, length_shares e mu))
+
+-- ranks, as numbers of earlier partitions
+pub rank_at : (e : ℕ) (mu : List ℕ) → IsLabel e mu → (j : ℕ) → j < length (earlier e mu) →
+    length (earlier e (share_at e mu j).0) ≡ j
+rank_at e mu is j lt = sym
+    (rank_of e (degree mu) j (share_at e mu j).0 [] (omega (arith, lt, rank_within e mu is))
+    (earlier_at e mu is j [] lt) regular.total)
+  where
+    regular : IsRegularOf e (degree mu) (share_at e mu j).0
+    regular = at_share e mu (IsRegularOf e (degree mu))
+        (all_kept (IsRegularOf e (degree mu)) mu (regulars e (degree mu)) (all_regulars e (degree mu))) j lt
 
 pub record IsNext (e : ℕ) (mu : List ℕ) (t j : ℕ) : Type 0 where
   pub lower : j < t

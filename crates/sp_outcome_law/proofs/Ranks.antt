@@ -1,14 +1,13 @@
 -- The rank of an e-regular partition is the number of those before it: the element at that place of the list is the
 -- partition, and the earlier ones stand at the places before it, as do the shares.
-use Rattle.std.proofs.Common.{◌≡◌, ℕ, zero, suc, ◌+◌, ◌<◌, ◌≤◌, List, [], ◌∷◌, ◌++◌, length, map, get_or, drop, take, refl}
-use Rattle.std.proofs.Common.{sym, ◌∙◌, ap, subst, arith, Less}
+use Rattle.std.proofs.Common.{◌≡◌, ℕ, zero, suc, ◌+◌, ◌<◌, List, [], ◌∷◌, length, map, get_or, refl}
+use Rattle.std.proofs.Common.{sym, ◌∙◌, ap, subst, arith, Less, ◌≤◌}
 use Rattle.std.proofs.lemmas.List.{length-map, get_or-map, get_or_append_left, length-append}
 use Rattle.std.proofs.Math.Seq.{get_or-append_seam}
 use Rattle.sp_lists.proofs.Places.{all_at}
-use Rattle.std.specs.List.{AllByRecursion}
 use Rattle.sp_defs.specs.Partition.{degree, regulars, compare, IsRegularOf, Ascending}
 use Rattle.sp_defs.specs.Ladder.{ladder_vector}
-use Rattle.sp_defs.specs.Row.{Factors, before, earlier, shares, shares_over}
+use Rattle.sp_defs.specs.Row.{before, earlier, shares}
 use Rattle.sp_defs.specs.Statements.{IsLabel}
 use Rattle.sp_shapes.proofs.Before.{about, after, before_self, before_keep, IsCut}
 use Rattle.sp_shapes.proofs.Listing.{all_regulars, each_regular, regulars_ascend}
@@ -70,3 +69,19 @@ pub rank_of : (e n k : ℕ) (mu d : List ℕ) → k < length (regulars e n) → 
     k ≡ length (earlier e mu)
 rank_of e n k mu d h at t =
     place_before (regulars e n) k mu d (regulars_ascend e n) h at ∙ ap (λ m. length (before mu (regulars e m))) (sym t)
+
+-- what holds of the partition at a place of the list
+pub record IsRanked (e n k : ℕ) (mu : List ℕ) : Type 0 where
+  pub label : IsLabel e mu
+  pub total : degree mu ≡ n
+  pub rank : length (earlier e mu) ≡ k
+
+pub ranked : (e n k : ℕ) (d : List ℕ) → 2 ≤ e → k < length (regulars e n) → IsRanked e n k (get_or (regulars e n) k d)
+ranked e n k d least h = record {
+  label = record { e_least = least; partition = at.partition; regular = at.regular };
+  total = at.total;
+  rank = sym (rank_of e n k (get_or (regulars e n) k d) d h refl at.total);
+}
+  where
+    at : IsRegularOf e n (get_or (regulars e n) k d)
+    at = all_at (IsRegularOf e n) (regulars e n) k d (all_regulars e n) h

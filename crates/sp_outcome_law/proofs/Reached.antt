@@ -1,10 +1,11 @@
 -- What has been given, and which rank is next, rank by rank.
-use Rattle.std.proofs.Common.{◌≡◌, ℕ, zero, suc, ◌+◌, ◌<◌, ◌≤◌, Bool, true, false, cond, List, [], ◌∷◌, length, refl}
-use Rattle.std.proofs.Common.{sym, ◌∙◌, ap, subst, arith, Option, Some, None, filter, drop}
+use Rattle.std.proofs.Common.{◌≡◌, ℕ, zero, suc, ◌<◌, ◌≤◌, Bool, true, false, cond, List, [], ◌∷◌, length, refl}
+use Rattle.std.proofs.Common.{◌+◌, sym, ◌∙◌, ap, subst, arith, Some, None, filter}
 use Rattle.std.proofs.lemmas.List.{drop_all}
-use Rattle.sp_defs.specs.Row.{Factors, shares}
+use Rattle.sp_defs.specs.Row.{shares}
 use Rattle.sp_outcome_law.specs.Asking.{is_nonzero, share_at, given, next_rank}
-use Rattle.sp_outcome_law.proofs.Listed.{find_down, filter-drop}
+use Rattle.sp_outcome_law.proofs.Listed.{filter-drop}
+use Rattle.sp_outcome_law.proofs.Downwards.{find_down}
 
 -- ---- one rank
 
@@ -48,6 +49,17 @@ passed_more e mu i t z h = record {
 
 pub passed_on : (e : ℕ) (mu : List ℕ) (i j t : ℕ) → Passed e mu i j → Passed e mu j t → Passed e mu i t
 passed_on e mu i j t h k = record { same_given = h.same_given ∙ k.same_given; same_next = k.same_next ∙ h.same_next }
+
+-- rank by rank
+pub passed_between : (e : ℕ) (mu : List ℕ) (count i t : ℕ) → i + count ≡ t →
+    ((j : ℕ) → i ≤ j → j < t → is_nonzero (share_at e mu j) ≡ false) → Passed e mu i t
+passed_between e mu zero i t s f = subst (λ n. Passed e mu i n) (same i t s) (passed_start e mu i)
+  where
+    same : (i t : ℕ) → i + 0 ≡ t → i ≡ t
+    same i t s = omega (arith, s)
+passed_between e mu (suc count) i t s f =
+    passed_more e mu i t (f i (omega arith) (omega (arith, s)))
+    (passed_between e mu count (suc i) t (omega (arith, s)) (λ j lo hi. f j (omega (arith, lo)) hi))
 
 -- ---- a next rank
 

@@ -1,7 +1,7 @@
 -- A partition's needed ones are itself and those that the partitions with a share need.
-use Rattle.std.proofs.Common.{◌≡◌, ◌≢◌, ℕ, Bool, true, false, cond, ◌||◌, List, [], ◌∷◌, map, refl, sym, ◌∙◌, ap, subst}
-use Rattle.std.proofs.Common.{◌⊎◌, inl, inr, Less, Equal, Greater, Ordering, filter, is_eq}
-use Rattle.std.specs.List.{AllByRecursion, list_any}
+use Rattle.std.proofs.Common.{◌≡◌, ◌≢◌, ℕ, Bool, true, cond, ◌||◌, List, [], ◌∷◌, map, refl, sym, ◌∙◌, ap, subst}
+use Rattle.std.proofs.Common.{◌⊎◌, inl, inr, Less, Equal, Greater, Ordering, is_eq}
+use Rattle.std.specs.List.{list_any}
 use Rattle.sp_defs.specs.Partition.{degree, regulars, compare, Ascending}
 use Rattle.sp_defs.specs.Laurent.{Laurent}
 use Rattle.sp_defs.specs.Power.{vector_of}
@@ -12,7 +12,8 @@ use Rattle.sp_shapes.proofs.Order.{same_lists, equal_self}
 use Rattle.sp_shapes.proofs.Before.{Ascending-before}
 use Rattle.sp_shapes.proofs.Listing.{Occurs, at_occurs, occurs_map, occurs_filter, regulars_ascend}
 use Rattle.sp_outcome_law.specs.Asking.{is_nonzero, given}
-use Rattle.sp_outcome_law.proofs.Listed.{some_passes, passing, from_filter, nonempty, has_element, same_tests, true_or, or_true}
+use Rattle.sp_outcome_law.proofs.Listed.{some_passes, passing, from_filter, nonempty, has_element, same_tests, true_or}
+use Rattle.sp_outcome_law.proofs.Listed.{or_true}
 use Rattle.sp_outcome_law.proofs.Ranks.{keys}
 use Rattle.sp_outcome_law.proofs.Needed.{listed, is_needed, own}
 
@@ -76,8 +77,8 @@ module _ (e : ℕ) (p : List ℕ → Bool) where
   split_from kappa mu itself s = true_or (p kappa) (some_further kappa) s
   split_from kappa mu (through mu' nu ne h) s =
       or_true (p mu') (some_further mu')
-      (some_passes (λ a. list_any p (needed e a.0)) (entry nu (share e mu' nu)) (given e mu' 0) (share_given e mu' nu ne)
-      (some_passes p kappa (needed e nu) (listed e nu kappa h) s))
+      (some_passes (λ a. list_any p (needed e a.0)) (entry nu (share e mu' nu)) (given e mu' 0)
+      (share_given e mu' nu ne) (some_passes p kappa (needed e nu) (listed e nu kappa h) s))
 
   -- a test of the needed ones is the test of the partition, or of those that its shares need
   pub needed_split : (mu : List ℕ) → list_any p (needed e mu) ≡ (p mu || some_further mu)

@@ -1,7 +1,8 @@
 -- How far a row has been reached, when the rows of its shares are taken off its ladder vector one by one, the latest
 -- first. The rank of an e-regular partition is its place, from 0, in the ascending list of those of its degree; so the
 -- share at the rank j is the element j of `shares`. With t of the ranks to come, the shares from t on have been given.
-use Rattle.std.specs.Prelude.{ℕ, ◌+◌, ◌*◌, Bool, true, false, cond, ◌||◌, nat_lt, List, [], reverse, length, filter, find}
+use Rattle.std.specs.Prelude.{ℕ, ◌+◌, ◌*◌, Bool, true, false, cond, ◌||◌, nat_lt, List, [], reverse, length, filter}
+use Rattle.std.specs.Prelude.{find}
 use Rattle.std.specs.Prelude.{get_or, drop, sum_by, Option, Some, None}
 use Rattle.std.specs.List.{list_any, range_with_len}
 use Rattle.sp_defs.specs.Partition.{degree, partitions}
