@@ -1,25 +1,21 @@
 -- The number of the partitions of n with parts at most m, for all n below a bound, by a table that grows from m to
 -- m + 1. The rows of the table are computed by the checker.
-use Rattle.std.proofs.Common.{◌≡◌, ℕ, zero, suc, ◌+◌, ◌-◌, ◌*◌, ◌/◌, ◌<◌, ◌≤◌, true, false, cond, nat_eq, nat_le, List, []}
-use Rattle.std.proofs.Common.{◌∷◌, ◌++◌, map, take, length, get_or, replicate, sum_by, refl, sym, ◌∙◌, ap, ap₂, subst, arith}
-use Rattle.std.proofs.Common.{leb-true, lt-ltb, eq-eqb, mul-le-mul_left, mul-le-mul_right, Bool, ◌&&◌}
+use Rattle.std.proofs.Common.{◌≡◌, ℕ, zero, suc, ◌+◌, ◌-◌, ◌*◌, ◌/◌, ◌<◌, ◌≤◌, Bool, true, false, cond, nat_eq, nat_le}
+use Rattle.std.proofs.Common.{List, [], ◌∷◌, ◌++◌, map, take, length, get_or, replicate, sum_by, refl, sym, ◌∙◌, ap}
+use Rattle.std.proofs.Common.{ap₂, subst, arith, leb-true}
 use Rattle.std.proofs.Math.Nat.{div-eq_of_lt}
 use Rattle.std.proofs.lemmas.List.{length-map}
 use Rattle.std.proofs.lemmas.List.Concat.{length-flat_map}
 use Rattle.std.proofs.lemmas.List.FromFn.{get_or-map-range_with_len, take-map-range_with_len}
-use Rattle.std.proofs.lemmas.List.Sums.{length-filter, count_by-le-length, sum_by-cons}
+use Rattle.std.proofs.lemmas.List.Sums.{sum_by-cons}
 use Rattle.std.specs.List.{AllByRecursion, list_all, range_with_len}
-use Rattle.sp_defs.specs.Partition.{degree, partitions_within, partitions, is_regular, regulars}
-use Rattle.sp_defs.specs.Row.{earlier}
-use Rattle.sp_defs.specs.Statements.{IsLabel}
+use Rattle.sp_defs.specs.Partition.{partitions_within, partitions}
 use Rattle.sp_lists.proofs.Elements.{all_tests, range_all, range_at}
 use Rattle.sp_lists.proofs.Greatest.{within_map}
-use Rattle.sp_shapes.proofs.Listing.{Occurs, IsPartition-nil, IsPartition-cons, each_regular, regulars_ascend}
 use Rattle.sp_shapes.proofs.Order.{all_mono}
-use Rattle.sp_row_bounds.specs.Powers.{row_bound}
-use Rattle.sp_row_bounds.specs.Counts.{partition_numbers, CountLaw}
-use Rattle.sp_row_bounds.proofs.Shares.{fewer_before}
+use Rattle.sp_row_bounds.specs.Counts.{partition_numbers}
 
+-- how many partitions of n have no part greater than m
 counted : ℕ → ℕ → ℕ
 counted m n = length (partitions_within m n)
 
@@ -62,6 +58,7 @@ next_row : ℕ → ℕ → List ℕ → List ℕ
 next_row l m row =
     map (λ n. sum_by (λ k. get_or row (n - k * suc m) 0) (range_with_len 0 (n / suc m + 1))) (range_with_len 0 l)
 
+-- the numbers for 0, 1, .. l - 1 with parts at most m
 row_of : ℕ → ℕ → List ℕ
 row_of l zero = map (λ n. cond (nat_eq n 0) 1 0) (range_with_len 0 l)
 row_of l (suc m) = next_row l m (row_of l m)
@@ -127,85 +124,11 @@ few l b le test n lt =
     first : map (λ k. length (partitions k)) (range_with_len 0 l) ≡ take l partition_numbers
     first = sym (take-map-range_with_len (λ k. length (partitions k)) 0 33 l le) ∙ ap (take l) numbers
 
-up_to_20 : (n : ℕ) → n ≤ 20 → length (partitions n) ≤ 627
+pub up_to_20 : (n : ℕ) → n ≤ 20 → length (partitions n) ≤ 627
 up_to_20 n le = few 21 627 (omega arith) refl n (omega arith)
 
-up_to_30 : (n : ℕ) → n ≤ 30 → length (partitions n) ≤ 5604
+pub up_to_30 : (n : ℕ) → n ≤ 30 → length (partitions n) ≤ 5604
 up_to_30 n le = few 31 5604 (omega arith) refl n (omega arith)
 
-up_to_32 : (n : ℕ) → n ≤ 32 → length (partitions n) ≤ 8349
+pub up_to_32 : (n : ℕ) → n ≤ 32 → length (partitions n) ≤ 8349
 up_to_32 n le = few 33 8349 (omega arith) refl n (omega arith)
-
--- ---- the e-regular ones
-
-few_regulars : (e n : ℕ) → length (regulars e n) ≤ length (partitions n)
-unfolding regulars
-few_regulars e n =
-    omega (
-      arith,
-      length-filter (is_regular e) (partitions n),
-      count_by-le-length (is_regular e) (partitions n),
-    )
-
-occurs_some : {X : Type 0} (x : X) (xs : List X) → Occurs x xs → 1 ≤ length xs
-occurs_some x [] o = absurd o
-occurs_some x (y ∷ xs) o = omega arith
-
--- the partition with one part
-some_regular : (e n : ℕ) → 2 ≤ e → 1 ≤ length (regulars e n)
-some_regular e zero he =
-    occurs_some [] (regulars e 0)
-    (each_regular e 0 [] (record { partition = IsPartition-nil; total = refl; regular = refl }))
-some_regular e (suc n) he =
-    occurs_some (suc n ∷ []) (regulars e (suc n)) (each_regular e (suc n) (suc n ∷ []) (record {
-      partition = IsPartition-cons (suc n) [] (omega arith) (omega arith) IsPartition-nil;
-      total = omega arith;
-      regular = once;
-    }))
-  where
-    once : is_regular e (suc n ∷ []) ≡ true
-    once =
-        let same : 0 + cond (nat_eq (suc n) (suc n)) 1 0 ≡ 1 =
-        ap (λ b. 0 + cond b 1 0) (eq-eqb (suc n) (suc n) refl) in
-        ap (λ b. b && true) (lt-ltb (0 + cond (nat_eq (suc n) (suc n)) 1 0) e (omega arith))
-
-few_earlier : (e : ℕ) (mu : List ℕ) → IsLabel e mu → length (earlier e mu) < length (regulars e (degree mu))
-few_earlier e mu is =
-    omega (
-      arith,
-      fewer_before mu (regulars e (degree mu)) (regulars_ascend e (degree mu))
-          (each_regular e (degree mu) mu
-          (record { partition = is.partition; total = refl; regular = is.regular })),
-    )
-
--- ---- the bound on powers
-
-product : (a b c d : ℕ) → a ≤ b → c ≤ d → a * c ≤ b * d
-product a b c d h k =
-    let first : a * c ≤ b * c = mul-le-mul_right c h in
-    let second : b * c ≤ b * d = mul-le-mul_left b k in
-    omega arith
-
-row_bound_within : (e : ℕ) (mu : List ℕ) (n b : ℕ) → IsLabel e mu → degree mu ≤ n → length (partitions (degree mu)) ≤ b →
-    row_bound e mu ≤ b * (n * n)
-row_bound_within e mu n b is le most = product (length (earlier e mu) + 1) b (degree mu * degree mu) (n * n) ranks squares
-  where
-    ranks : length (earlier e mu) + 1 ≤ b
-    ranks = omega (arith, few_earlier e mu is, few_regulars e (degree mu))
-
-    squares : degree mu * degree mu ≤ n * n
-    squares = product (degree mu) n (degree mu) n le le
-
-pub count_law : CountLaw
-count_law = record {
-  numbers = numbers;
-  up_to_20 = up_to_20;
-  up_to_30 = up_to_30;
-  up_to_32 = up_to_32;
-  some_regular = some_regular;
-  few_regulars = few_regulars;
-  few_earlier = few_earlier;
-  row_bound_20 = λ e mu is le. row_bound_within e mu 20 627 is le (up_to_20 (degree mu) le);
-  row_bound_30 = λ e mu is le. row_bound_within e mu 30 5604 is le (up_to_30 (degree mu) le);
-  row_bound_32 = λ e mu is le. row_bound_within e mu 32 8349 is le (up_to_32 (degree mu) le);
-}

@@ -1,7 +1,7 @@
 -- An exponent lies within the number of nodes added times the degree reached. So the powers of a sum over chains, and
 -- of a ladder vector, lie within the square of the degree.
-use Rattle.std.proofs.Common.{◌≡◌, ℕ, zero, suc, ◌+◌, ◌-◌, ◌*◌, ◌<◌, ◌≤◌, Bool, true, false, not, ◌&&◌, cond, List, [], ◌∷◌}
-use Rattle.std.proofs.Common.{map, filter, length, refl, sym, ◌∙◌, ap, subst, arith, nat_eq, nat_lt, count_by}
+use Rattle.std.proofs.Common.{◌≡◌, ℕ, zero, suc, ◌+◌, ◌-◌, ◌*◌, ◌<◌, ◌≤◌, Bool, true, false, not, ◌&&◌, cond, List}
+use Rattle.std.proofs.Common.{[], ◌∷◌, map, filter, length, refl, sym, ◌∙◌, ap, subst, arith, nat_eq, nat_lt, count_by}
 use Rattle.std.proofs.Common.{ltb-true, ℤ, pos, ◌+ℤ◌, ◌-ℤ◌}
 use Rattle.std.proofs.lemmas.Int.{ints}
 use Rattle.std.proofs.lemmas.List.{length-map}

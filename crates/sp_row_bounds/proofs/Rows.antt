@@ -1,6 +1,6 @@
 -- The powers in the shares and the regular row of an e-regular partition, and in all that is made on the way: by the
 -- ladder law the ladder vectors are a triangle, whose powers lie within the square of the degree.
-use Rattle.std.proofs.Common.{◌≡◌, ◌≢◌, ℕ, zero, suc, ◌+◌, ◌*◌, ◌≤◌, Bool, true, false, cond, List, [], ◌∷◌, length}
+use Rattle.std.proofs.Common.{◌≡◌, ◌≢◌, ℕ, ◌+◌, ◌*◌, ◌≤◌, Bool, true, false, cond, List, [], ◌∷◌, length}
 use Rattle.std.proofs.Common.{filter, drop, refl, sym, ◌∙◌, ap, subst, arith, ◌⊎◌, inl, inr, ℤ, Less}
 use Rattle.std.specs.Int.RustNames.{unsigned_abs}
 use Rattle.std.specs.List.{AllByRecursion}
@@ -12,6 +12,7 @@ use Rattle.sp_defs.specs.Ladder.{ladder_vector}
 use Rattle.sp_defs.specs.Row.{Factors, combination, before, factors, shares_over, regular_row, shares}
 use Rattle.sp_defs.specs.Statements.{IsLabel}
 use Rattle.sp_defs.specs.Within.{PowersWithin, ProductWithin}
+use Rattle.sp_lists.proofs.Places.{all_at, all_drop}
 use Rattle.sp_lists.proofs.Elements.{nil_or_not, all_both, all_filter}
 use Rattle.sp_algebra.proofs.Sizes.{powers_plus, within_times, within_more}
 use Rattle.sp_shapes.proofs.Order.{all_mono}
@@ -48,11 +49,6 @@ near_vector b ((kappa, p) ∷ es) nu (h, hs) = found (is_eq (compare kappa nu)) 
     found : (c : Bool) → PowersWithin b (vector_of es nu) → PowersWithin b (cond c p (vector_of es nu))
     found true rest = h
     found false rest = rest
-
-all_dropped : {X : Type 0} (P : X → Type 0) (t : ℕ) (xs : List X) → AllByRecursion P xs → AllByRecursion P (drop t xs)
-all_dropped P zero xs h = h
-all_dropped P (suc t) [] h = tt
-all_dropped P (suc t) (x ∷ xs) (h, hs) = all_dropped P t xs hs
 
 -- ---- one e-regular partition
 
@@ -170,7 +166,8 @@ module _ (e : ℕ) (mu : List ℕ) (is : IsLabel e mu) where
         without (filter test (drop t (shares e mu))) lambda pl
         (all_filter (Term lambda) test (drop t (shares e mu))
         (all_mono (Term lambda) (λ a. test a ≡ true → Term lambda a) (drop t (shares e mu)) (λ a h _. h)
-        (all_dropped (Term lambda) t (shares e mu) (terms_near lambda pl))));
+        (all_drop (Term lambda) (shares e mu) t
+        (λ i d _ lt. all_at (Term lambda) (shares e mu) i d (terms_near lambda pl) lt))));
   }
 
 pub powers_law : PowersLaw

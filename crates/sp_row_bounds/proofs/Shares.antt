@@ -98,8 +98,8 @@ module _ (Good : List ℕ → Type 0) (A : List ℕ → Vector) (tri : Triangle 
 
         terms : AllByRecursion (λ a. AllPowers (Floor d) (term a)) s
         terms =
-            all_mono (λ a. PowersWithin d a.1 × (Good a.0 × (compare nu a.0 ≡ Less))) (λ a. AllPowers (Floor d) (term a))
-            s
+            all_mono (λ a. PowersWithin d a.1 × (Good a.0 × (compare nu a.0 ≡ Less)))
+            (λ a. AllPowers (Floor d) (term a)) s
             (λ a h.
             product_floor a.1 (rows A (nu ∷ later) a.0 nu)
             (IsLaurent-combination A (factors A a.0 (before a.0 (nu ∷ later))) nu) h.0
@@ -120,7 +120,8 @@ module _ (Good : List ℕ → Type 0) (A : List ℕ → Vector) (tri : Triangle 
     module _ (lambda : List ℕ) (there : (nu : List ℕ) → Good nu → PowersWithin d (A nu lambda)) where
       -- each earlier row is within d less
       AllLess : List ℕ → List (List ℕ) → Type 0
-      AllLess mu seg = AllByRecursion (λ a. PowersWithin (length seg * d) (rows A seg a.0 lambda)) (shares_over A mu seg)
+      AllLess mu seg =
+          AllByRecursion (λ a. PowersWithin (length seg * d) (rows A seg a.0 lambda)) (shares_over A mu seg)
 
       -- so its product with the share is within the bound
       products_from : (mu : List ℕ) (seg : List (List ℕ)) → Good mu → AllByRecursion Good seg → Ascending seg →
