@@ -23,7 +23,7 @@ pub record IsWhole (key : Key) (mu : List ℕ) (vector : FockVector) (given : Li
 
 abbrev pub IsFound : Key → List ℕ → Found → Type 0
 IsFound key mu found.TooLarge = outcome key.e key.limit mu ≡ TooLarge
-IsFound key mu (found.Whole row shares at) = IsWhole key mu row shares at
+IsFound key mu (found.Whole row shares at) = IsWhole key mu row shares.items at
 
 -- What is true of the parts of an entry.
 pub record IsKept (key : Key) (rank : ℕ) (own : List ℕ) (kept : Found) : Type 0 where

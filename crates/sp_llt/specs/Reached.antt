@@ -41,7 +41,7 @@ pub record IsOpen (key : Key) (mu : List ℕ) (t : ℕ) (tally : TallyValue) (gi
 
 abbrev pub IsReached : Key → List ℕ → ℕ → State → Type 0
 IsReached key mu t TooLarge = is_past key.e key.limit mu t ≡ true
-IsReached key mu t (Open tally shares next) = IsOpen key mu t tally shares next
+IsReached key mu t (Open tally shares next) = IsOpen key mu t tally shares.items next
 
 -- What is true of the parts of a builder.
 pub record IsBuilder (key : Key) (rank reached : ℕ) (state : State) : Type 0 where

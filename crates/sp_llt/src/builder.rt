@@ -103,9 +103,12 @@ impl<'a> Builder<'a> {
         let State::Open {
             tally,
             shares,
-            next: Some(share),
+            next,
         } = state
         else {
+            unreachable!();
+        };
+        let Some(share) = next else {
             unreachable!();
         };
         let reached = share.rank;
