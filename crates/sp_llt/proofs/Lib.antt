@@ -1,3 +1,7 @@
 pub mod Existence
 pub mod Positive
 pub mod Strays
+pub mod Labels
+pub mod Asks
+pub mod Tallies
+pub mod Found

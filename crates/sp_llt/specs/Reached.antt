@@ -1,10 +1,10 @@
 -- What a builder keeps of its row.
-use Rattle.std.specs.Prelude.{◌≡◌, ℕ, ◌≤◌, true, false, List, Option, None, Some, MatchOption}
+use Rattle.std.specs.Prelude.{◌≡◌, ℕ, ◌≤◌, true, false, List, Option, IfSome}
+use Rattle.std.specs.Option.{option_map}
 use Rattle.sp_defs.specs.Power.{fock_vector}
-use Rattle.sp_defs.specs.Ladder.{ladder_weight}
 use Rattle.sp_core.specs.declared.piece.Key.{Key}
 use Rattle.sp_fock_law.specs.Tally.{TallyValue, totals}
-use Rattle.sp_outcome_law.specs.Asking.{share_at, next_rank, left, total, given_past, total_past, is_past}
+use Rattle.sp_outcome_law.specs.Asking.{share_at, next_rank, left, total, share_past, is_past}
 use Rattle.sp_llt.specs.declared.share.Share.{Share}
 use Rattle.sp_llt.specs.declared.builder.State.{State}
 use Rattle.sp_llt.specs.declared.builder.State.TheVariants.{TooLarge, Open}
@@ -19,21 +19,17 @@ tally_at key mu t = record {
 }
 
 -- The share whose row comes next.
-abbrev pub IsNext : ℕ → List ℕ → ℕ → Option Share → Type 0
-IsNext e mu t next = MatchOption next
-    (next_rank e mu t ≡ None)
-    (λ s. (next_rank e mu t ≡ Some s.rank) × (s.alpha ≡ (share_at e mu s.rank).1))
+pub record IsNext (e : ℕ) (mu : List ℕ) (t : ℕ) (next : Option Share) : Type 0 where
+  pub rank : option_map (λ s. s.rank) next ≡ next_rank e mu t
+  pub alpha : IfSome next (λ s. s.alpha ≡ (share_at e mu s.rank).1)
 
--- Nothing that has been given is past the limit.
-pub record IsWithin (key : Key) (mu : List ℕ) (t : ℕ) : Type 0 where
-  pub ladder : ladder_weight key.e mu ≤ key.limit
-  pub rows : given_past key.e key.limit mu t ≡ false
-  pub totals : total_past key.e key.limit mu t ≡ false
+-- Nothing that has been given is past the limit: only the next share may be.
+abbrev pub IsWithin : Key → List ℕ → ℕ → Type 0
+IsWithin key mu t = is_past key.e key.limit mu t ≡ share_past key.e key.limit mu (next_rank key.e mu t)
 
 -- The parts of a builder whose row isn't known to be too large.
 pub record IsOpen (key : Key) (mu : List ℕ) (t : ℕ) (tally : TallyValue) (given : List Share) (next : Option Share) :
     Type 0 where
-  pub within : IsWithin key mu t
   pub undecided : is_past key.e key.limit mu t ≡ false
   pub left : tally ≡ tally_at key mu t
   pub shares : given ≡ given_shares key.e mu t

@@ -1,5 +1,6 @@
 // How the entry of one rank is made from earlier entries.
 ghost use Rattle.std.specs.Prelude.{◌≡◌, ◌≢◌, ◌<◌, ℕ, IfOk, IfSome, None as Nothing, Some as Just, true, length};
+ghost use Rattle.std.specs.Option.{option_map};
 ghost use Rattle.sp_defs.specs.Row.{outcome, TooLarge as IsTooLarge};
 ghost use Rattle.sp_defs.specs.Statements.{SameContent};
 ghost use Rattle.sp_outcome_law.specs.Asking.{asked, next_rank, is_past};
@@ -80,10 +81,8 @@ impl<'a> Builder<'a> {
         ensures held { IsProgress self.now }
     {
         match &self.state {
-            State::Open {
-                next: Some(share), ..
-            } => Some(share.rank),
-            _ => None,
+            State::TooLarge => None,
+            State::Open { next, .. } => rank_of(next),
         }
     }
 
@@ -204,5 +203,15 @@ impl<'a> Builder<'a> {
             Err(LaurentFault::TooLarge) => Ok(Builder::too_large(alloc, ctx, rank, reached)),
             Err(LaurentFault::Memory) => Err(AllocError),
         }
+    }
+}
+
+// The rank of a share, if there is one.
+fn rank_of(share: &Option<Share>) -> Option<usize>
+    ensures { result ≡ option_map (λ s. s.rank) share.now }
+{
+    match share {
+        Some(share) => Some(share.rank),
+        None => None,
     }
 }

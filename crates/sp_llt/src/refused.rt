@@ -1,7 +1,7 @@
 // Why there is no row.
 ghost use Rattle.std.specs.Prelude.{◌≡◌, map, reverse};
 ghost use Rattle.std.specs.Arc.{arc_value};
-ghost use Rattle.sp_llt.specs.Refusals.{first_of};
+ghost use Rattle.sp_llt.specs.Refusals.{refusal, first_refusal};
 
 use crate::Entry;
 use sp_partition::Partition;
@@ -32,15 +32,25 @@ pub enum RowsFault {
 
 /// The last entry of the list that is refused. It takes no memory.
 pub fn first_refused(rows: &[Arc<Entry>]) -> Option<FirstRefused>
-    ensures { result ≡ first_of (reverse (map arc_value rows.now)) }
+    ensures { result ≡ first_refusal (reverse (map arc_value rows.now)) }
 {
-    for entry in rows.iter().rev() {
-        if let Err(why) = entry.row() {
-            return Some(FirstRefused {
-                mu: *entry.mu(),
-                why,
-            });
+    for k in (0..rows.len()).rev() {
+        if let Some(refused) = refusal_of(&rows[k]) {
+            return Some(refused);
         }
     }
     None
+}
+
+// The entry's partition and why it has no row, if it has none.
+fn refusal_of(entry: &Entry) -> Option<FirstRefused>
+    ensures { result ≡ refusal entry.now }
+{
+    match entry.row() {
+        Ok(_) => None,
+        Err(why) => Some(FirstRefused {
+            mu: *entry.mu(),
+            why,
+        }),
+    }
 }
