@@ -1,10 +1,10 @@
 -- What a builder asks for.
 use Rattle.std.proofs.Common.{◌≡◌, ◌≢◌, ℕ, suc, ◌+◌, ◌<◌, ◌≤◌, Bool, true, false, cond, List, [], length, get_or, refl, sym, ◌∙◌}
-use Rattle.std.proofs.Common.{ap, subst, arith, Option, Some, None, IfSome, nat_lt, lt-ltb, le-ltb}
+use Rattle.std.proofs.Common.{ap, subst, arith, Option, Some, None, IfSome, MatchOption, nat_lt, lt-ltb, le-ltb}
 use Rattle.std.specs.Option.{option_map}
 use Rattle.sp_defs.specs.Partition.{degree, regulars, IsPartitionOf}
 use Rattle.sp_defs.specs.Laurent.{lift, size}
-use Rattle.sp_defs.specs.Power.{vector_of, entries}
+use Rattle.sp_defs.specs.Power.{FockVector, vector_of, entries}
 use Rattle.sp_defs.specs.Row.{outcome, TooLarge, earlier}
 use Rattle.sp_defs.specs.Statements.{SameContent}
 use Rattle.sp_fock_law.specs.Tally.{TallyValue}
@@ -18,7 +18,8 @@ use Rattle.sp_core.specs.declared.piece.Key.{Key}
 use Rattle.sp_llt.specs.declared.share.Share.{Share}
 use Rattle.sp_llt.specs.Place.{IsPlace, place, Progress, IsProgress, progress, label, labels}
 use Rattle.sp_llt.specs.Search.{lift_at, NoLift, IsLastLift, IsLargeLift}
-use Rattle.sp_llt.specs.Reached.{IsNext as IsNextShare, IsWithin, IsOpen}
+use Rattle.sp_llt.specs.Shares.{given_shares}
+use Rattle.sp_llt.specs.Reached.{IsNext as IsNextShare, IsWithin, IsOpen, tally_at}
 use Rattle.sp_llt.proofs.Labels.{LabelFacts, label_facts, lower_place, by_degree}
 
 pub asked_past : (e limit : ℕ) (mu : List ℕ) (t : ℕ) → is_past e limit mu t ≡ true → asked e limit mu t ≡ None
@@ -154,3 +155,48 @@ open_asks key mu t tally given next is = is.asked.rank ∙ sym (asked_open key.e
 pub mono : {X : Type 0} (P Q : X → Type 0) (o : Option X) → ((x : X) → P x → Q x) → IfSome o P → IfSome o Q
 mono P Q None h i = tt
 mono P Q (Some x) h i = h x i
+
+-- ---- what the search makes of a builder
+
+-- what the search in a vector has found
+abbrev pub Found : FockVector → List (List ℕ) → ℕ → ℕ → Option Share → Type 0
+Found v rs limit t next =
+    MatchOption next (NoLift (vector_of v.entries) rs 0 t) (IsLastLift (vector_of v.entries) rs t limit)
+
+pub open_found : (key : Key) (rank t : ℕ) (tally : TallyValue) (given : List Share) (next : Option Share) →
+    IsProgress (progress key rank t) → IsWithin key (label key rank) t → tally ≡ tally_at key (label key rank) t →
+    given ≡ given_shares key.e (label key rank) t → Found tally.vector (labels key) key.limit t next →
+    IsOpen key (label key rank) t tally given next
+open_found key rank t tally given next p w is shares found =
+    by_next next (subst (λ (s : TallyValue). Found s.vector (labels key) key.limit t next) is found)
+  where
+    by_next : (next : Option Share) →
+        Found (tally_at key (label key rank) t).vector (labels key) key.limit t next →
+        IsOpen key (label key rank) t tally given next
+    by_next None h =
+        let last : next_rank key.e (label key rank) t ≡ None = none_found key rank p.place t p.reached h in
+        record {
+          undecided = none_undecided key (label key rank) t w last;
+          left = is;
+          shares = shares;
+          asked = record { rank = sym last; alpha = tt };
+        }
+    by_next (Some s) h =
+        let n : IsNextShare key.e (label key rank) t (Some s) = some_found key rank p.place t key.limit s p.reached h in
+        record {
+          undecided =
+              some_undecided key (label key rank) t s.rank w (sym n.rank)
+              (subst (λ q. size q ≤ key.limit) n.alpha h.fits);
+          left = is;
+          shares = shares;
+          asked = n;
+        }
+
+pub past_found : (key : Key) (rank t : ℕ) (tally : TallyValue) → IsProgress (progress key rank t) →
+    IsWithin key (label key rank) t → tally ≡ tally_at key (label key rank) t →
+    (j : ℕ) × IsLargeLift (vector_of tally.vector.entries) (labels key) t key.limit j →
+    is_past key.e key.limit (label key rank) t ≡ true
+past_found key rank t tally p w is (j, large) =
+    w
+    ∙ large_found key rank p.place t j p.reached
+    (subst (λ (s : TallyValue). IsLargeLift (vector_of s.vector.entries) (labels key) t key.limit j) is large)

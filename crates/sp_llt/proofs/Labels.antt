@@ -1,5 +1,6 @@
 -- The e-regular partition of a rank.
-use Rattle.std.proofs.Common.{◌≡◌, ℕ, ◌<◌, List, [], length, get_or, refl, sym, ap, arith}
+use Rattle.std.proofs.Common.{◌≡◌, ℕ, ◌<◌, List, [], length, get_or, refl, sym, ◌∙◌, ap, arith}
+use Rattle.std.proofs.lemmas.List.{get_or_default}
 use Rattle.sp_defs.specs.Partition.{degree, regulars, IsRegularOf}
 use Rattle.sp_defs.specs.Row.{earlier}
 use Rattle.sp_defs.specs.Statements.{IsLabel}
@@ -34,3 +35,9 @@ lower_place key rank j p lt = record { key = p.key; rank = omega (arith, p.rank)
 pub by_degree : (key : Key) (rank i : ℕ) → LabelFacts key rank →
     get_or (regulars key.e (degree (label key rank))) i [] ≡ label key i
 by_degree key rank i f = ap (λ n. get_or (regulars key.e n) i []) f.total
+
+-- an element of the list of labels is the label
+pub read_label : (key : Key) (rank : ℕ) (rs : List (List ℕ)) (mu : List ℕ) → rs ≡ labels key →
+    rank < length (labels key) → mu ≡ get_or rs rank mu → mu ≡ label key rank
+read_label key rank rs mu same lt at =
+    at ∙ ap (λ xs. get_or xs rank mu) same ∙ get_or_default (labels key) rank mu [] lt

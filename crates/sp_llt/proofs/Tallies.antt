@@ -28,6 +28,7 @@ use Rattle.sp_llt.specs.declared.share.Share.{Share}
 use Rattle.sp_llt.specs.Place.{IsPlace, place, label, labels}
 use Rattle.sp_llt.specs.Shares.{given_shares, ranked_share, rank_of}
 use Rattle.sp_llt.specs.Reached.{tally_at, IsWithin}
+use Rattle.sp_llt.proofs.Positive.{nothing}
 use Rattle.sp_llt.proofs.Labels.{LabelFacts, label_facts}
 
 -- ---- a negative factor
@@ -38,10 +39,6 @@ negate_times a b = same_laurent (times (negate a) b) (negate (times a b)) (IsLau
   where
     none : plus (times a b) (times (negate a) b) ≡ []
     none = sym (plus_times a (negate a) b) ∙ ap (λ q. times q b) (plus_negate a) ∙ nought_times b
-
-    nothing : (j : ℤ) → coefficient [] j ≡ pos 0
-    unfolding coefficient
-    nothing j = refl
 
     by_power : (j : ℤ) → coefficient (times (negate a) b) j ≡ coefficient (negate (times a b)) j
     by_power j = omega (
