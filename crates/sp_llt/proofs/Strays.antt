@@ -5,13 +5,13 @@ use Rattle.std.specs.List.{find}
 use Rattle.std.specs.Option.{option_map}
 use Rattle.std.specs.Ordering.{is_eq}
 use Rattle.std.specs.Cmp.Lexicographic.{pointwise, same_text, other_text}
-use Rattle.std.proofs.lemmas.List.{reverse-append}
 use Rattle.sp_defs.specs.Partition.{compare, partitions, degree}
 use Rattle.sp_defs.specs.Laurent.{Laurent}
 use Rattle.sp_defs.specs.Power.{Vector, entries}
 use Rattle.sp_defs.specs.Row.{is_positive, stray, regular_row}
 use Rattle.sp_shapes.proofs.Order.{equal_self, same_lists}
 use Rattle.sp_outcome_law.proofs.Listed.{same_tests, no_element}
+use Rattle.sp_llt.proofs.Lists.{found_first, if_passes, find_back}
 use Rattle.sp_llt.specs.Search.{is_stray_entry}
 
 -- ---- two tests of two partitions
@@ -40,27 +40,7 @@ same_equality xs ys = same_tests (pointwise nat_eq xs ys) (is_eq (compare xs ys)
 pub told_other : (xs ys : List ℕ) (b : Bool) → b ≡ not (pointwise nat_eq xs ys) → b ≡ not (is_eq (compare xs ys))
 told_other xs ys b h = h ∙ ap not (same_equality xs ys)
 
--- ---- the last that passes
-
-abbrev first_of : {X : Type 0} → Option X → Option X → Option X
-first_of None o = o
-first_of (Some x) o = Some x
-
-abbrev if_passes : {X : Type 0} → (X → Bool) → X → Option X
-if_passes q x = cond (q x) (Some x) None
-
-find-append : {X : Type 0} (q : X → Bool) (xs ys : List X) → find q (xs ++ ys) ≡ first_of (find q xs) (find q ys)
-find-append q [] ys = refl
-find-append q (x ∷ xs) ys = tested (q x) (find-append q xs ys)
-  where
-    tested : (b : Bool) → find q (xs ++ ys) ≡ first_of (find q xs) (find q ys) →
-        cond b (Some x) (find q (xs ++ ys)) ≡ first_of (cond b (Some x) (find q xs)) (find q ys)
-    tested true ih = refl
-    tested false ih = ih
-
-find_back : {X : Type 0} (q : X → Bool) (x : X) (xs : List X) →
-    find q (reverse (x ∷ xs)) ≡ first_of (find q (reverse xs)) (if_passes q x)
-find_back q x xs = ap (find q) (reverse-append (x ∷ []) xs) ∙ find-append q (reverse xs) (x ∷ [])
+-- ---- the search
 
 module _ (mu : List ℕ) (w : Vector) where
   abbrev is_stray : List ℕ → Bool
@@ -82,28 +62,28 @@ module _ (mu : List ℕ) (w : Vector) where
   listed_stray (x ∷ xs) = tested (nat_lt 0 (length (w x))) refl (listed_stray xs) ∙ sym (find_back is_stray x xs)
     where
       kept : (o : Option (List ℕ × Laurent)) (b : Bool) →
-          option_map (λ t. t.0) (first_of o (cond b (Some (x, w x)) None))
-          ≡ first_of (option_map (λ t. t.0) o) (cond b (Some x) None)
+          option_map (λ t. t.0) (found_first o (cond b (Some (x, w x)) None))
+          ≡ found_first (option_map (λ t. t.0) o) (cond b (Some x) None)
       kept None true = refl
       kept None false = refl
       kept (Some t) b = refl
 
-      none_more : (o : Option (List ℕ)) → o ≡ first_of o None
+      none_more : (o : Option (List ℕ)) → o ≡ found_first o None
       none_more None = refl
       none_more (Some y) = refl
 
       tested : (b : Bool) → nat_lt 0 (length (w x)) ≡ b →
           option_map (λ t. t.0) (find (is_stray_entry mu) (reverse (listed xs))) ≡ find is_stray (reverse xs) →
           option_map (λ t. t.0) (find (is_stray_entry mu) (reverse (cond b ((x, w x) ∷ listed xs) (listed xs))))
-          ≡ first_of (find is_stray (reverse xs)) (if_passes is_stray x)
+          ≡ found_first (find is_stray (reverse xs)) (if_passes is_stray x)
       tested true e ih =
           ap (option_map (λ t. t.0)) (find_back (is_stray_entry mu) (x, w x) (listed xs))
           ∙ kept (find (is_stray_entry mu) (reverse (listed xs))) (is_stray x)
-          ∙ ap (λ o. first_of o (if_passes is_stray x)) ih
+          ∙ ap (λ o. found_first o (if_passes is_stray x)) ih
       tested false e ih =
           ih
           ∙ none_more (find is_stray (reverse xs))
-          ∙ ap (λ b. first_of (find is_stray (reverse xs)) (cond b (Some x) None)) (sym (not_zero x (no_element (w x) e)))
+          ∙ ap (λ b. found_first (find is_stray (reverse xs)) (cond b (Some x) None)) (sym (not_zero x (no_element (w x) e)))
 
 -- the stray partition of a row, from the row's entries
 pub stray_found : (e n : ℕ) (mu : List ℕ) → degree mu ≡ n →

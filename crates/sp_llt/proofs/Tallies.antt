@@ -28,6 +28,7 @@ use Rattle.sp_llt.specs.declared.share.Share.{Share}
 use Rattle.sp_llt.specs.Place.{IsPlace, place, label, labels}
 use Rattle.sp_llt.specs.Shares.{given_shares, ranked_share, rank_of}
 use Rattle.sp_llt.specs.Reached.{tally_at, IsWithin}
+use Rattle.sp_llt.proofs.Lists.{map_alike}
 use Rattle.sp_llt.proofs.Positive.{nothing}
 use Rattle.sp_llt.proofs.Labels.{LabelFacts, label_facts}
 
@@ -51,10 +52,6 @@ negate_times a b = same_laurent (times (negate a) b) (negate (times a b)) (IsLau
     )
 
 -- ---- numbers at the partitions of n
-
-map_alike : {X Y : Type 0} (f g : X → Y) (xs : List X) → AllByRecursion (λ x. f x ≡ g x) xs → map f xs ≡ map g xs
-map_alike f g [] h = refl
-map_alike f g (x ∷ xs) (h, hs) = ap₂ (λ y ys. y ∷ ys) h (map_alike f g xs hs)
 
 numbers_alike : (n : ℕ) (f g : List ℕ → ℕ) → ((lambda : List ℕ) → IsPartitionOf n lambda → f lambda ≡ g lambda) →
     map f (partitions n) ≡ map g (partitions n)

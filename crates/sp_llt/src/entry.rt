@@ -101,10 +101,10 @@ impl Entry {
     {
         match &self.found {
             Found::TooLarge => Err(Refused::TooLarge),
-            Found::Whole {
-                stray: Some(at), ..
-            } => Err(Refused::Stray { at: *at }),
-            Found::Whole { row, .. } => Ok(row),
+            Found::Whole { row, stray, .. } => match stray {
+                Some(at) => Err(Refused::Stray { at: *at }),
+                None => Ok(row),
+            },
         }
     }
 
