@@ -58,7 +58,7 @@ row_of p = fock_vector p.key.degree (regular_row p.key.e (label p.key p.rank))
 pub record GivenFacts (key : Key) (rank t : ℕ) (share : Share) (given : Place) : Type 0 where
   pub next : next_rank key.e (label key rank) t ≡ Some share.rank
   pub value : share_at key.e (label key rank) share.rank ≡ (label key share.rank, share.alpha)
-  pub earlier : share.rank < rank
+  pub lower : share.rank < rank
   pub progress : IsProgress (progress key rank share.rank)
   pub entry : given ≡ place key share.rank
   pub count : length (earlier key.e (label key share.rank)) ≡ share.rank
@@ -69,7 +69,7 @@ pub given_facts : (key : Key) (rank t : ℕ) (tally : TallyValue) (given : List 
 given_facts key rank t tally given share entry p is a k = record {
   next = next;
   value = ap₂ (λ x y. (x, y)) facts.at (sym is.asked.alpha);
-  earlier = facts.earlier;
+  lower = facts.earlier;
   progress = record { place = p; reached = omega (arith, facts.earlier) };
   entry = ap₂ place k (sym same);
   count = (label_facts key share.rank (lower_place key rank share.rank p facts.earlier)).count;

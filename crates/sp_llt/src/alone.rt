@@ -20,7 +20,7 @@ fn empty_table(alloc: Global, count: usize) -> Result<Vec<Option<Entry>>, AllocE
     ensures { IfOk result (λ table. table.items ≡ replicate count Nothing) }
 {
     let mut table = Vec::new(alloc);
-    for _ in 0..count {
+    for _slot in 0..count {
         table.push(None)?;
     }
     Ok(table)

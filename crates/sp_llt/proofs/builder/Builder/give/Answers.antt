@@ -83,7 +83,7 @@ subtract-requires-clause-within c =
     c.in-Open.is c.in-Some.is c.requires.asked c.requires.entry in
     subst (fits c.in-Some.share.alpha) (sym (c.in-Some-regular_row.ensures.some ∙ ap row_of f.entry))
     (product_fits c.self.inside.ctx.now c.self.inside.rank c.in-Some.share.rank
-    (label c.self.inside.ctx.now c.in-Some.share.rank) c.in-Some.share.alpha c.self.invariant.place.place f.earlier f.value)
+    (label c.self.inside.ctx.now c.in-Some.share.rank) c.in-Some.share.alpha c.self.invariant.place.place f.lower f.value)
 
 pub reach-requires-clause-place : goal.reach-requires-clause-place
 reach-requires-clause-place c =
