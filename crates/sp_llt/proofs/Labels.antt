@@ -1,5 +1,5 @@
 -- The e-regular partition of a rank.
-use Rattle.std.proofs.Common.{◌≡◌, ℕ, ◌<◌, List, [], length, get_or, refl, sym, ◌∙◌, ap, arith}
+use Rattle.std.proofs.Common.{◌≡◌, ℕ, ◌<◌, ◌≤◌, List, [], length, get_or, refl, sym, ◌∙◌, ap, arith}
 use Rattle.std.proofs.lemmas.List.{get_or_default}
 use Rattle.sp_defs.specs.Partition.{degree, regulars, IsRegularOf}
 use Rattle.sp_defs.specs.Row.{earlier}
@@ -8,7 +8,8 @@ use Rattle.sp_lists.proofs.Places.{all_at}
 use Rattle.sp_shapes.proofs.Listing.{all_regulars}
 use Rattle.sp_outcome_law.proofs.Ranks.{rank_of}
 use Rattle.sp_core.specs.declared.piece.Key.{Key}
-use Rattle.sp_llt.specs.Place.{IsPlace, place, label, labels}
+use Rattle.sp_llt.specs.Place.{IsKey, IsPlace, place, label, labels}
+use Rattle.sp_row_bounds.proofs.Ranks.{count_law}
 
 pub record LabelFacts (key : Key) (rank : ℕ) : Type 0 where
   pub regular : IsRegularOf key.e key.degree (label key rank)
@@ -41,3 +42,16 @@ pub read_label : (key : Key) (rank : ℕ) (rs : List (List ℕ)) (mu : List ℕ)
     rank < length (labels key) → mu ≡ get_or rs rank mu → mu ≡ label key rank
 read_label key rank rs mu same lt at =
     at ∙ ap (λ xs. get_or xs rank mu) same ∙ get_or_default (labels key) rank mu [] lt
+
+-- ---- how many there are
+
+pub some_labels : (key : Key) → IsKey key → 1 ≤ length (labels key)
+some_labels key h = count_law.some_regular key.e key.degree h.e_least
+
+pub few_labels : (key : Key) → IsKey key → length (labels key) ≤ 5604
+few_labels key h =
+    omega (
+      arith,
+      count_law.few_regulars key.e key.degree,
+      count_law.up_to_30 key.degree (omega (arith, h.degree)),
+    )

@@ -53,6 +53,8 @@ impl Ctx {
     /// The e-regular partitions of the degree, ascending: their places are the ranks. It takes no memory.
     pub fn regulars(&self) -> &[Partition]
         ensures value { result.now ≡ labels self.now }
+        ensures some { 1 ≤ length result.now }
+        ensures few { length result.now ≤ 5604 }
         ensures held { IsKey self.now }
     {
         &self.regulars

@@ -1,9 +1,9 @@
-use Rattle.std.proofs.Common.{◌≡◌, ℕ, length, ◌≤◌}
+use Rattle.std.proofs.Common.{◌≡◌, ℕ, length}
 use Rattle.sp_llt.specs.Table.{IsTable}
-use Rattle.sp_llt.proofs.alone.+made.Given as goal
+use Rattle.sp_llt.proofs.alone.+fill.Given as goal
 
-abbrev pub decreases-made : goal.decreases-made
-decreases-made l = l.k
+abbrev pub decreases-fill : goal.decreases-fill
+decreases-fill l = l.k
 
 abbrev pub invariant-loop-j : goal.invariant-loop-j
 invariant-loop-j l = record {
