@@ -1,3 +1,4 @@
+pub mod Ranking
 pub mod WordRows
 pub mod DominanceTest
 pub mod Finding

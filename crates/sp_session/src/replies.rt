@@ -8,6 +8,7 @@ use crate::abacuses::{put_combined, put_core};
 use crate::diagrams::put_content;
 use crate::faults::put_fault;
 use crate::orders::{put_conjugate, put_dominance, put_partitions, put_regulars};
+use crate::rows::put_row;
 use crate::signatures::{put_good, put_image, put_path};
 use crate::vectors::{put_induced, put_ladder_vector, put_ladders};
 use sp_abacus::abacus_text;
@@ -66,7 +67,6 @@ fn put_answer(
         Command::Induce(e, i, m, p) => put_induced(alloc, limit, *e, *i, *m, p, out),
         Command::Ladders(e, mu) => put_ladders(alloc, *e, mu, out),
         Command::Ladder(e, mu) => put_ladder_vector(alloc, limit, *e, mu, out),
-        // not built yet
-        Command::Row(_, _) => put_fault(LineFault::UnknownCommand, out),
+        Command::Row(e, mu) => put_row(alloc, limit, *e, mu, out),
     }
 }

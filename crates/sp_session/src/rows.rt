@@ -1,0 +1,59 @@
+// Answers on rows.
+ghost use Rattle.std.specs.Prelude.{◌≡◌, ◌++◌, ◌≤◌, ◌<◌, ◌^◌, true, length, OnOk, codes};
+ghost use Rattle.sp_defs.specs.Partition.{degree as degree_of, is_regular};
+ghost use Rattle.sp_defs.specs.Text.{partition_text};
+ghost use Rattle.sp_llt.specs.Place.{label, labels};
+ghost use Rattle.sp_session.specs.Rows.{row_text};
+ghost use Rattle.sp_session.specs.Words.{line_of};
+
+use crate::vectors::put_vector;
+use sp_llt::{Ctx, Refused, entry_alone};
+use sp_partition::{DEGREE_LIMIT, Partition, rank};
+use std::alloc::{AllocError, Global};
+
+/// The row, or why there is none. An `Err` leaves `out` unspecified.
+pub(crate) fn put_row(
+    alloc: Global,
+    limit: u128,
+    e: u8,
+    mu: &Partition,
+    out: &mut Vec<u8>,
+) -> Result<(), AllocError>
+    requires least { 1 ≤ limit }
+    requires most { limit < 2 ^ 127 }
+    requires e_least { 2 ≤ e }
+    requires e_most { e ≤ 64 }
+    requires degree { degree_of mu.now ≤ DEGREE_LIMIT }
+    requires regular { is_regular e mu.now ≡ true }
+    ensures { OnOk result (out.new.items ≡ out.old.items ++ row_text limit e mu.now) }
+{
+    let ctx = Ctx::open(alloc, e, mu.degree(), limit)?;
+    let entry = entry_alone(alloc, &ctx, rank_of(&ctx, mu))?;
+    match entry.row() {
+        Ok(row) => put_vector(alloc, row, out),
+        Err(Refused::TooLarge) => out.extend_from_slice(b"error 9 too large\n"),
+        Err(Refused::Stray { at }) => put_stray(alloc, &at, out),
+    }
+}
+
+// The rank of an e-regular partition of the context's degree.
+fn rank_of(ctx: &Ctx, mu: &Partition) -> usize
+    requires degree { degree_of mu.now ≡ ctx.now.degree }
+    requires regular { is_regular ctx.now.e mu.now ≡ true }
+    ensures below { result < length (labels ctx.now) }
+    ensures label { label ctx.now result ≡ mu.now }
+{
+    match rank(ctx.regulars(), mu) {
+        Some(k) => k,
+        None => unreachable!(),
+    }
+}
+
+fn put_stray(alloc: Global, at: &Partition, out: &mut Vec<u8>) -> Result<(), AllocError>
+    ensures { OnOk result (out.new.items ≡
+        out.old.items ++ line_of (codes "error 10 stray coefficient at " ++ partition_text at.now)) }
+{
+    out.extend_from_slice(b"error 10 stray coefficient at ")?;
+    at.print(alloc, out)?;
+    out.extend_from_slice(b"\n")
+}
