@@ -244,7 +244,7 @@ module _ (places : List Place) (ws : List (List ℕ)) (p : Passed places ws) whe
         no_peers h,
         ap (λ e. any_word (is_no_residue e) places ws) e.0,
         ap (λ e. any_word (has_irregular e) places ws) e.0
-        ∙ labels_same (number (word_at ws 2)) (number (word_at ws 0)) e.1 places ws p.limit,
+            ∙ labels_same (number (word_at ws 2)) (number (word_at ws 0)) e.1 places ws p.limit,
       )
   later (inr (inl (at, h))) =
       let first = given_of places ws 0 p.count p.partitions p.limit at in (

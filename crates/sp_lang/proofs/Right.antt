@@ -124,10 +124,10 @@ module _ (places : List Place) (ws : List (List ℕ)) (f : Faultless places ws) 
       let n = degree (partition (word_at ws 0)) in
       let some = right_at is_no_partition places ws Peer k f.count f.partitions at in (
         given (word_at ws k) some
-        (right_at (passes_limit (number (word_at ws 2))) places ws Peer k f.count f.limit at),
+            (right_at (passes_limit (number (word_at ws 2))) places ws Peer k f.count f.limit at),
         eqb-true (degree (partition (word_at ws k))) n (not-false (eqb (degree (partition (word_at ws k))) n)
-        (unsaid (λ p. not (eqb (degree p) n)) (partition_of (word_at ws k)) [] some
-        (right_at (is_of_other_degree n) places ws Peer k f.count f.peers at))),
+            (unsaid (λ p. not (eqb (degree p) n)) (partition_of (word_at ws k)) [] some
+            (right_at (is_of_other_degree n) places ws Peer k f.count f.peers at))),
       )
 
   pub grown_at : slice_get places k ≡ Some Grown →
@@ -146,10 +146,10 @@ module _ (places : List Place) (ws : List (List ℕ)) (f : Faultless places ws) 
       let e = number (word_at ws 0) in
       let some = right_at is_no_partition places ws Label k f.count f.partitions at in (
         given (word_at ws k) some
-        (right_at (passes_limit (number (word_at ws 2))) places ws Label k f.count f.limit at),
+            (right_at (passes_limit (number (word_at ws 2))) places ws Label k f.count f.limit at),
         not-false (is_regular e (partition (word_at ws k)))
-        (unsaid (λ p. not (is_regular e p)) (partition_of (word_at ws k)) [] some
-        (right_at (is_irregular e) places ws Label k f.count f.labels at)),
+            (unsaid (λ p. not (is_regular e p)) (partition_of (word_at ws k)) [] some
+            (right_at (is_irregular e) places ws Label k f.count f.labels at)),
       )
 
   pub quotient_at : slice_get places k ≡ Some Quotient →
