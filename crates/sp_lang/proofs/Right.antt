@@ -1,6 +1,6 @@
 -- What words say that have no fault in their places.
-use Rattle.std.proofs.Common.{◌≡◌, ℕ, ◌+◌, ◌<◌, ◌≤◌, Bool, true, false, not, ◌||◌, List, [], ◌∷◌, map, length, refl, sym}
-use Rattle.std.proofs.Common.{◌∙◌, ap, ap₂, arith, eqb, eqb-true, min, slice_get, nat_le, nat_lt}
+use Rattle.std.proofs.Common.{◌≡◌, ℕ, ◌+◌, ◌<◌, ◌≤◌, Bool, true, false, not, List, [], ◌∷◌, map, length, refl}
+use Rattle.std.proofs.Common.{ap₂, arith, eqb, eqb-true, min, slice_get, nat_le, nat_lt}
 use Rattle.std.proofs.lemmas.Bool.{or_parts, not-false, ltb-false, and_parts, leb-true, leb-false, le-leb, cond-true}
 use Rattle.std.proofs.lemmas.Bool.{true≢false}
 use Rattle.std.proofs.lemmas.List.Elements.{All-nil, All-cons}
@@ -14,10 +14,10 @@ use Rattle.sp_lang.specs.Words.{pieces}
 use Rattle.sp_lang.specs.Commands.{number, partition, partitions, word_at}
 use Rattle.sp_lang.specs.Faults.{says, is_e, is_past, is_no_number, is_no_partition, is_no_e, passes_limit}
 use Rattle.sp_lang.specs.Faults.{is_of_other_degree, is_no_residue, is_irregular, any_word}
-use Rattle.sp_lang.specs.Given.{IsE, IsGiven, IsLabel}
+use Rattle.sp_lang.specs.Given.{IsE, IsGiven}
 use Rattle.sp_lang.specs.Tests.{byte, fitting, all_fitting}
 use Rattle.sp_lang.specs.declared.verb.Place.{Place}
-use Rattle.sp_lang.specs.declared.verb.Place.TheVariants.{E, Residue, Count, Degree, Partition, Peer, Grown, Label}
+use Rattle.sp_lang.specs.declared.verb.Place.TheVariants.{E, Residue, Degree, Partition, Peer, Grown, Label}
 use Rattle.sp_lang.specs.declared.verb.Place.TheVariants.{Quotient}
 use Rattle.sp_lang.proofs.Faultless.{Faultless, right_at}
 

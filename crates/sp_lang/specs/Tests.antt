@@ -1,4 +1,4 @@
--- The parser's values and tests: numbers stop at 255, and partitions past the capacity are left out.
+-- The parser's values and tests: numbers stop at 255, and partitions past the capacity are left out. This project's own.
 use Rattle.std.specs.Prelude.{ℕ, min, cond, nat_le, Bool, false, ◌&&◌, not, List, [], ◌∷◌, map, find, Option}
 use Rattle.std.specs.Option.{option_map}
 use Rattle.sp_defs.specs.Partition.{degree, is_regular}
