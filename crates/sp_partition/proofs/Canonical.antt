@@ -43,7 +43,8 @@ number_text n some small = record {
 often_text : (p m : ℕ) → 1 < m → decimal p ++ (codes "^" ++ decimal m) ≡ part_text p m
 often_text p m two = ap (λ b. decimal p ++ cond b (codes "^" ++ decimal m) []) (sym (lt-ltb 1 m two))
 
-item_text : (p m : ℕ) → 0 < p → p < 2 ^ 64 → 0 < m → m < 2 ^ 64 → item_of (cut 94 (part_text p m)) ≡ Some (replicate m p)
+item_text : (p m : ℕ) → 0 < p → p < 2 ^ 64 → 0 < m → m < 2 ^ 64 →
+    item_of (cut 94 (part_text p m)) ≡ Some (replicate m p)
 item_text p m hp sp hm sm = settle (eq-or-lt_of_le (least hm))
   where
     least : 0 < m → 1 ≤ m

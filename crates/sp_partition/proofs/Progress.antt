@@ -175,7 +175,8 @@ may_extend parts last m p times ends h hm hp follows is small =
 -- ---- one item more
 
 -- The first item of what is left: the others stand behind it.
-first_item : (items part : List ℕ) (end times : ℕ) → StandsAt 44 items end → (item : IsItemOf (take end items) part times) →
+first_item : (items part : List ℕ) (end times : ℕ) → StandsAt 44 items end →
+    (item : IsItemOf (take end items) part times) →
     items_of (cut 44 items)
     ≡ onto (replicate item.count (digits_value 10 part)) (items_of (pieces_left 44 (rest_of items end)))
 first_item items part end times stands item =
