@@ -30,7 +30,8 @@ none_there [] h = tt
 none_there (f ∷ fs) h = by_test f.1 refl (none_there fs) h
   where
     by_test : (t : Bool) → f.1 ≡ t →
-        (option_map (λ (f : LineFault × Bool). f.0) (find (λ f. f.1) fs) ≡ None → AllByRecursion (λ f. f.1 ≡ false) fs) →
+        (option_map (λ (f : LineFault × Bool). f.0) (find (λ f. f.1) fs) ≡ None →
+        AllByRecursion (λ f. f.1 ≡ false) fs) →
         option_map (λ (f : LineFault × Bool). f.0) (cond t (Some f) (find (λ f. f.1) fs)) ≡ None →
         (f.1 ≡ false) × AllByRecursion (λ f. f.1 ≡ false) fs
     by_test true is rest h = absurd (cc)

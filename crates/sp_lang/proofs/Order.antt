@@ -1,6 +1,7 @@
 -- The parser's tests find the first fault: numbers that stop at 255 and partitions left out change no answer.
 use Rattle.std.proofs.Common.{◌≡◌, ◌≢◌, ℕ, ◌+◌, ◌<◌, ◌≤◌, ◌⊎◌, inl, inr, Bool, true, false, cond, not, ◌||◌, ◌&&◌}
-use Rattle.std.proofs.Common.{List, [], ◌∷◌, length, refl, sym, ◌∙◌, ap, ap₂, arith, min, eqb, slice_get, nat_le, nat_lt}
+use Rattle.std.proofs.Common.{List, [], ◌∷◌, length, refl, sym, ◌∙◌, ap, ap₂, arith, min, eqb, slice_get}
+use Rattle.std.proofs.Common.{nat_le, nat_lt}
 use Rattle.std.proofs.lemmas.Bool.{or_parts, or_from, and_parts, lt-ltb, le-ltb, le-leb, cases_lt, eq-eqb, ne_eqb}
 use Rattle.std.proofs.lemmas.Bool.{ltb-false}
 use Rattle.std.specs.Prelude.{Option, Some, None}
