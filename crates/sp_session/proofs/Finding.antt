@@ -1,5 +1,6 @@
 -- The partition with a core and a quotient is found, where there is one.
-use Rattle.std.proofs.Common.{◌≡◌, ℕ, ◌+◌, ◌*◌, ◌≤◌, Bool, true, false, cond, nat_eq, List, [], ◌∷◌, refl, sym, ◌∙◌, ap, ap₂}
+use Rattle.std.proofs.Common.{◌≡◌, ℕ, ◌+◌, ◌*◌, ◌≤◌, Bool, true, false, cond, nat_eq, List, [], ◌∷◌, refl, sym, ◌∙◌}
+use Rattle.std.proofs.Common.{ap, ap₂}
 use Rattle.std.proofs.Common.{arith, ◌⊎◌, inl, inr, subst}
 use Rattle.std.proofs.Common.{◌<◌, not, nat_lt, length, ◌↔◌, eq-eqb, eqb-true, lt-ltb, ltb-true, ltb-false}
 use Rattle.std.specs.Prelude.{Some, None, Result, Ok, Err, find, sum_by, ◌&&◌, codes}
@@ -43,7 +44,8 @@ same_lists (p ∷ ps) (q ∷ qs) h =
 
 lists_same : (ps : List (List ℕ)) → pointwise is_partition ps ps ≡ true
 lists_same [] = refl
-lists_same (p ∷ ps) = and_join (is_partition p p) (pointwise is_partition ps ps) ((bytes_decides p p).1 refl) (lists_same ps)
+lists_same (p ∷ ps) = and_join (is_partition p p) (pointwise is_partition ps ps) ((bytes_decides p p).1 refl)
+    (lists_same ps)
 
 pub made : (e : ℕ) (kappa : List ℕ) (quotients : List (List ℕ)) (p : List ℕ) → core e p ≡ kappa →
     quotient e p ≡ quotients → is_made_of e kappa quotients p ≡ true

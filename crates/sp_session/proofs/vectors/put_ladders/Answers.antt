@@ -18,4 +18,5 @@ returns c =
     ∙ ap (λ words. c.args.out.now.items ++ dash_or_words words)
     (ap (map (λ (s : Step). step_text s.ladder s.residue s.count)) (c.as_slice.ensures.value ∙ c.ladders.ensures)
     ∙ sym (map_seen (λ (s : Step). step_text s.ladder s.residue s.count) (step_on e mu) (ladders e mu))))
-    ∙ append_assoc c.args.out.now.items _ (codes "\n")) (appended c.extend_from_slice.result _ _ _ c.extend_from_slice.ensures.items)
+    ∙ append_assoc c.args.out.now.items _ (codes "\n"))
+    (appended c.extend_from_slice.result _ _ _ c.extend_from_slice.ensures.items)
