@@ -1,3 +1,5 @@
+ghost use Rattle.std.specs.Prelude.{◌<◌};
+
 use crate::{Status, run_alone};
 use sp_base::{MemSink, MemSource};
 use std::alloc::{AllocError, Global};
