@@ -1,16 +1,13 @@
 -- What is known of words in which no fault is found.
-use Rattle.std.proofs.Common.{◌≡◌, ℕ, zero, suc, ◌+◌, ◌<◌, ◌≤◌, Bool, true, false, cond, not, ◌||◌, List, [], ◌∷◌, length}
-use Rattle.std.proofs.Common.{refl, sym, ◌∙◌, ap, subst, arith, eqb, eqb-true, min, slice_get, nat_le, nat_lt}
-use Rattle.std.proofs.lemmas.Bool.{or_parts, not-false, ltb-false, and_parts, leb-true, eq-eqb, leb-false}
-use Rattle.std.specs.Prelude.{Option, Some, None, find, is_none, unwrap_or, All}
+use Rattle.std.proofs.Common.{◌≡◌, ℕ, zero, suc, Bool, true, false, cond, List, [], ◌∷◌, length}
+use Rattle.std.proofs.Common.{refl, subst, arith, eqb, eqb-true, slice_get}
+use Rattle.std.proofs.lemmas.Bool.{or_parts, not-false}
+use Rattle.std.specs.Prelude.{Some, None, find}
 use Rattle.std.specs.List.{AllByRecursion}
 use Rattle.std.specs.Option.{option_map}
-use Rattle.sp_defs.specs.Partition.{degree, is_regular, IsPartition}
-use Rattle.sp_partition.specs.Reading.{number_of, partition_of}
-use Rattle.sp_partition.specs.declared.TheConstants.{DEGREE_LIMIT}
-use Rattle.sp_lang.specs.Words.{pieces}
-use Rattle.sp_lang.specs.Commands.{number, partition, partitions, word_at}
-use Rattle.sp_lang.specs.Faults.{says, is_e, is_past, is_no_number, is_no_partition, is_no_e, passes_limit}
+use Rattle.sp_defs.specs.Partition.{degree}
+use Rattle.sp_lang.specs.Commands.{number, partition, word_at}
+use Rattle.sp_lang.specs.Faults.{is_no_number, is_no_partition, is_no_e, passes_limit}
 use Rattle.sp_lang.specs.Faults.{is_of_other_degree, is_no_residue, is_irregular, any_word, faults, first_fault}
 use Rattle.sp_lang.specs.declared.fault.LineFault.{LineFault}
 use Rattle.sp_lang.specs.declared.verb.Place.{Place}
@@ -33,7 +30,8 @@ none_there [] h = tt
 none_there (f ∷ fs) h = by_test f.1 refl (none_there fs) h
   where
     by_test : (t : Bool) → f.1 ≡ t →
-        (option_map (λ (f : LineFault × Bool). f.0) (find (λ f. f.1) fs) ≡ None → AllByRecursion (λ f. f.1 ≡ false) fs) →
+        (option_map (λ (f : LineFault × Bool). f.0) (find (λ f. f.1) fs) ≡ None →
+        AllByRecursion (λ f. f.1 ≡ false) fs) →
         option_map (λ (f : LineFault × Bool). f.0) (cond t (Some f) (find (λ f. f.1) fs)) ≡ None →
         (f.1 ≡ false) × AllByRecursion (λ f. f.1 ≡ false) fs
     by_test true is rest h = absurd (cc)

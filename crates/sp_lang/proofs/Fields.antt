@@ -1,9 +1,8 @@
 -- The fields of a command whose words have no fault.
-use Rattle.std.proofs.Common.{◌≡◌, ℕ, ◌≤◌, true, List, refl, sym, ap, ap₂, arith, slice_get}
-use Rattle.std.specs.Prelude.{Option, Some}
-use Rattle.sp_defs.specs.Partition.{is_regular}
+use Rattle.std.proofs.Common.{◌≡◌, ℕ, List, refl, sym, ap, ap₂, arith, slice_get}
+use Rattle.std.specs.Prelude.{Some}
 use Rattle.sp_lang.specs.Commands.{places_of, command_of, number, partition, word_at}
-use Rattle.sp_lang.specs.Given.{IsCommand, IsE, IsGiven, IsWithE, IsLabel}
+use Rattle.sp_lang.specs.Given.{IsCommand, IsWithE, IsLabel}
 use Rattle.sp_lang.specs.Tests.{byte, fitting, fitting_command}
 use Rattle.sp_lang.specs.declared.command.Command.TheVariants as command
 use Rattle.sp_lang.specs.declared.verb.Place.{Place}

@@ -1,18 +1,19 @@
 -- The parser's tests find the first fault: numbers that stop at 255 and partitions left out change no answer.
 use Rattle.std.proofs.Common.{◌≡◌, ◌≢◌, ℕ, ◌+◌, ◌<◌, ◌≤◌, ◌⊎◌, inl, inr, Bool, true, false, cond, not, ◌||◌, ◌&&◌}
-use Rattle.std.proofs.Common.{List, [], ◌∷◌, length, refl, sym, ◌∙◌, ap, ap₂, arith, min, eqb, slice_get, nat_le, nat_lt}
+use Rattle.std.proofs.Common.{List, [], ◌∷◌, length, refl, sym, ◌∙◌, ap, ap₂, arith, min, eqb, slice_get}
+use Rattle.std.proofs.Common.{nat_le, nat_lt}
 use Rattle.std.proofs.lemmas.Bool.{or_parts, or_from, and_parts, lt-ltb, le-ltb, le-leb, cases_lt, eq-eqb, ne_eqb}
 use Rattle.std.proofs.lemmas.Bool.{ltb-false}
-use Rattle.std.specs.Prelude.{Option, Some, None, find}
+use Rattle.std.specs.Prelude.{Option, Some, None}
 use Rattle.std.specs.List.{list_all}
 use Rattle.std.specs.Option.{option_map}
 use Rattle.sp_defs.specs.Partition.{degree, is_regular}
 use Rattle.sp_partition.specs.Reading.{partition_of}
 use Rattle.sp_partition.specs.declared.TheConstants.{CAPACITY, DEGREE_LIMIT}
 use Rattle.sp_lang.specs.Commands.{number, partition, places_of, word_at}
-use Rattle.sp_lang.specs.Faults.{says, is_past, is_no_number, is_no_partition, is_no_e, passes_limit, any_word}
+use Rattle.sp_lang.specs.Faults.{says, is_no_number, is_no_partition, is_no_e, passes_limit, any_word}
 use Rattle.sp_lang.specs.Faults.{is_of_other_degree, is_no_residue, is_irregular, first_fault}
-use Rattle.sp_lang.specs.Tests.{byte, fitting, fails, has_irregular, is_fitting_irregular, first_failing}
+use Rattle.sp_lang.specs.Tests.{byte, fitting, has_irregular, is_fitting_irregular, first_failing}
 use Rattle.sp_lang.specs.declared.fault.LineFault.{LineFault}
 use Rattle.sp_lang.specs.declared.fault.LineFault.TheVariants.{WordCount}
 use Rattle.sp_lang.specs.declared.test.Test.{Test}
@@ -23,7 +24,6 @@ use Rattle.sp_lang.specs.declared.verb.Verb.{Verb}
 use Rattle.sp_lang.specs.declared.verb.Verb.TheVariants.{Partitions, Regular, Conjugate, Dominates, Diagram, Hooks}
 use Rattle.sp_lang.specs.declared.verb.Verb.TheVariants.{Content, Core, Combine, Abacus, Good, Path, Mullineux}
 use Rattle.sp_lang.specs.declared.verb.Verb.TheVariants.{Induce, Ladders, Ladder, Row}
-use Rattle.sp_lang.specs.Given.{IsE, IsGiven}
 use Rattle.sp_lang.proofs.Right.{byte-small, IsGiven-fits, e_of, given_of}
 
 -- ---- counts that stop at 255
@@ -244,7 +244,7 @@ module _ (places : List Place) (ws : List (List ℕ)) (p : Passed places ws) whe
         no_peers h,
         ap (λ e. any_word (is_no_residue e) places ws) e.0,
         ap (λ e. any_word (has_irregular e) places ws) e.0
-        ∙ labels_same (number (word_at ws 2)) (number (word_at ws 0)) e.1 places ws p.limit,
+            ∙ labels_same (number (word_at ws 2)) (number (word_at ws 0)) e.1 places ws p.limit,
       )
   later (inr (inl (at, h))) =
       let first = given_of places ws 0 p.count p.partitions p.limit at in (

@@ -1,6 +1,6 @@
 -- What words say that have no fault in their places.
-use Rattle.std.proofs.Common.{◌≡◌, ℕ, ◌+◌, ◌<◌, ◌≤◌, Bool, true, false, not, ◌||◌, List, [], ◌∷◌, map, length, refl, sym}
-use Rattle.std.proofs.Common.{◌∙◌, ap, ap₂, arith, eqb, eqb-true, min, slice_get, nat_le, nat_lt}
+use Rattle.std.proofs.Common.{◌≡◌, ℕ, ◌+◌, ◌<◌, ◌≤◌, Bool, true, false, not, List, [], ◌∷◌, map, length, refl}
+use Rattle.std.proofs.Common.{ap₂, arith, eqb, eqb-true, min, slice_get, nat_le, nat_lt}
 use Rattle.std.proofs.lemmas.Bool.{or_parts, not-false, ltb-false, and_parts, leb-true, leb-false, le-leb, cond-true}
 use Rattle.std.proofs.lemmas.Bool.{true≢false}
 use Rattle.std.proofs.lemmas.List.Elements.{All-nil, All-cons}
@@ -14,10 +14,10 @@ use Rattle.sp_lang.specs.Words.{pieces}
 use Rattle.sp_lang.specs.Commands.{number, partition, partitions, word_at}
 use Rattle.sp_lang.specs.Faults.{says, is_e, is_past, is_no_number, is_no_partition, is_no_e, passes_limit}
 use Rattle.sp_lang.specs.Faults.{is_of_other_degree, is_no_residue, is_irregular, any_word}
-use Rattle.sp_lang.specs.Given.{IsE, IsGiven, IsLabel}
+use Rattle.sp_lang.specs.Given.{IsE, IsGiven}
 use Rattle.sp_lang.specs.Tests.{byte, fitting, all_fitting}
 use Rattle.sp_lang.specs.declared.verb.Place.{Place}
-use Rattle.sp_lang.specs.declared.verb.Place.TheVariants.{E, Residue, Count, Degree, Partition, Peer, Grown, Label}
+use Rattle.sp_lang.specs.declared.verb.Place.TheVariants.{E, Residue, Degree, Partition, Peer, Grown, Label}
 use Rattle.sp_lang.specs.declared.verb.Place.TheVariants.{Quotient}
 use Rattle.sp_lang.proofs.Faultless.{Faultless, right_at}
 
@@ -124,10 +124,10 @@ module _ (places : List Place) (ws : List (List ℕ)) (f : Faultless places ws) 
       let n = degree (partition (word_at ws 0)) in
       let some = right_at is_no_partition places ws Peer k f.count f.partitions at in (
         given (word_at ws k) some
-        (right_at (passes_limit (number (word_at ws 2))) places ws Peer k f.count f.limit at),
+            (right_at (passes_limit (number (word_at ws 2))) places ws Peer k f.count f.limit at),
         eqb-true (degree (partition (word_at ws k))) n (not-false (eqb (degree (partition (word_at ws k))) n)
-        (unsaid (λ p. not (eqb (degree p) n)) (partition_of (word_at ws k)) [] some
-        (right_at (is_of_other_degree n) places ws Peer k f.count f.peers at))),
+            (unsaid (λ p. not (eqb (degree p) n)) (partition_of (word_at ws k)) [] some
+            (right_at (is_of_other_degree n) places ws Peer k f.count f.peers at))),
       )
 
   pub grown_at : slice_get places k ≡ Some Grown →
@@ -146,10 +146,10 @@ module _ (places : List Place) (ws : List (List ℕ)) (f : Faultless places ws) 
       let e = number (word_at ws 0) in
       let some = right_at is_no_partition places ws Label k f.count f.partitions at in (
         given (word_at ws k) some
-        (right_at (passes_limit (number (word_at ws 2))) places ws Label k f.count f.limit at),
+            (right_at (passes_limit (number (word_at ws 2))) places ws Label k f.count f.limit at),
         not-false (is_regular e (partition (word_at ws k)))
-        (unsaid (λ p. not (is_regular e p)) (partition_of (word_at ws k)) [] some
-        (right_at (is_irregular e) places ws Label k f.count f.labels at)),
+            (unsaid (λ p. not (is_regular e p)) (partition_of (word_at ws k)) [] some
+            (right_at (is_irregular e) places ws Label k f.count f.labels at)),
       )
 
   pub quotient_at : slice_get places k ≡ Some Quotient →

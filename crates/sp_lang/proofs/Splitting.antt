@@ -1,6 +1,6 @@
 -- The words of a text, one after the other.
-use Rattle.std.proofs.Common.{◌≡◌, ℕ, suc, ◌+◌, ◌<◌, ◌≤◌, cond, not, Bool, true, false, List, [], ◌∷◌, take, drop}
-use Rattle.std.proofs.Common.{length, refl, sym, ◌∙◌, ap, subst, arith, eqb, filter}
+use Rattle.std.proofs.Common.{◌≡◌, ℕ, suc, ◌+◌, ◌≤◌, cond, not, Bool, true, false, List, [], ◌∷◌, take, drop}
+use Rattle.std.proofs.Common.{length, refl, sym, ◌∙◌, ap, subst, arith, filter}
 use Rattle.std.proofs.Common.{nat_lt}
 use Rattle.std.proofs.lemmas.Bool.{ltb-false}
 use Rattle.std.specs.Prelude.{Some, None, unwrap_or}

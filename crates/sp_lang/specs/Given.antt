@@ -1,4 +1,4 @@
--- What holds of the fields of a command that was read.
+-- What holds of the fields of a command that was read. This project's own.
 use Rattle.std.specs.Prelude.{◌≡◌, ℕ, ◌+◌, ◌<◌, ◌≤◌, true, List, All, Result, Ok}
 use Rattle.sp_defs.specs.Partition.{degree, is_regular, IsPartition}
 use Rattle.sp_partition.specs.declared.TheConstants.{DEGREE_LIMIT}

@@ -1,4 +1,5 @@
 -- The parser's values and tests: numbers stop at 255, and partitions past the capacity are left out.
+-- This project's own.
 use Rattle.std.specs.Prelude.{ℕ, min, cond, nat_le, Bool, false, ◌&&◌, not, List, [], ◌∷◌, map, find, Option}
 use Rattle.std.specs.Option.{option_map}
 use Rattle.sp_defs.specs.Partition.{degree, is_regular}
@@ -6,7 +7,8 @@ use Rattle.sp_partition.specs.Reading.{partition_of}
 use Rattle.sp_partition.specs.declared.TheConstants.{CAPACITY}
 use Rattle.sp_lang.specs.Words.{pieces}
 use Rattle.sp_lang.specs.Commands.{number, partition, word_at, command_with}
-use Rattle.sp_lang.specs.Faults.{is_no_number, is_no_partition, is_no_e, passes_limit, is_of_other_degree, is_no_residue, says}
+use Rattle.sp_lang.specs.Faults.{is_no_number, is_no_partition, is_no_e, passes_limit, is_of_other_degree}
+use Rattle.sp_lang.specs.Faults.{is_no_residue, says}
 use Rattle.sp_lang.specs.Faults.{any_word}
 use Rattle.sp_lang.specs.declared.command.Command.{Command}
 use Rattle.sp_lang.specs.declared.fault.LineFault.{LineFault}
@@ -29,7 +31,8 @@ all_fitting word = map fitting (pieces word)
 
 abbrev pub fitting_command : Verb → List (List ℕ) → Command
 fitting_command verb words =
-    command_with (λ k. byte (word_at words k)) (λ k. fitting (word_at words k)) (λ k. all_fitting (word_at words k)) verb
+    command_with (λ k. byte (word_at words k)) (λ k. fitting (word_at words k)) (λ k. all_fitting (word_at words k))
+    verb
 
 -- A label that isn't e-regular, among those that fit.
 abbrev pub is_fitting_irregular : ℕ → List ℕ → Bool

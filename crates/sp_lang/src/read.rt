@@ -121,11 +121,7 @@ fn tests_of(text: &[u8]) -> [(Test, LineFault); 7]
 }
 
 // The first of the tests that finds a word wrong, and its fault.
-fn first_of(
-    tests: &[(Test, LineFault)],
-    places: &[Place],
-    text: &[u8],
-) -> Option<(Test, LineFault)>
+fn first_of(tests: &[(Test, LineFault)], places: &[Place], text: &[u8]) -> Option<(Test, LineFault)>
     ensures { result ≡ find (λ test. any_word (fails test.0) places.now (words text.now)) tests.now }
 {
     tests

@@ -77,12 +77,12 @@ fn lines_and_their_commands(rt: HostRuntime) -> Result<(), Fail> {
     ];
     for (line, word, parts, numbers) in cases {
         let outcome = read_command(rt.alloc(), line);
-        assert!(rt; outcome.is_ok(), "at {word}");
+        assert!(rt; outcome.is_ok(), "at {line:?}");
         if let Ok(command) = &outcome {
             let (other_word, other_parts, other_numbers) = shown(command);
-            assert!(rt; other_word == word, "at {word}");
-            assert!(rt; other_parts == parts, "at {word}");
-            assert!(rt; other_numbers == numbers, "at {word}");
+            assert!(rt; other_word == word, "at {line:?}");
+            assert!(rt; other_parts == parts, "at {line:?}");
+            assert!(rt; other_numbers == numbers, "at {line:?}");
         }
     }
     Ok(())
@@ -138,7 +138,7 @@ fn lines_and_their_faults(rt: HostRuntime) -> Result<(), Fail> {
     ];
     for (line, fault) in cases {
         let outcome = read_command(rt.alloc(), line).err();
-        assert!(rt; outcome == Some(fault), "at {:?}", fault);
+        assert!(rt; outcome == Some(fault), "at {line:?}");
     }
     Ok(())
 }

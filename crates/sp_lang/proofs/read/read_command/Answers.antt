@@ -1,4 +1,4 @@
-use Rattle.std.proofs.Common.{◌≡◌, ◌∙◌, sym, subst}
+use Rattle.std.proofs.Common.{◌∙◌, sym, subst}
 use Rattle.sp_lang.specs.Given.{WantsMemory}
 use Rattle.sp_lang.proofs.Answered.{long_line, bad_byte, plain_line, read_command}
 use Rattle.sp_lang.proofs.read.read_command.Goals as goal

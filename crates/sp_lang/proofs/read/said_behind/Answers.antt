@@ -1,5 +1,4 @@
-use Rattle.std.proofs.Common.{◌≡◌, ◌∙◌, sym}
-use Rattle.std.specs.Prelude.{Some, Err}
+use Rattle.std.proofs.Common.{◌≡◌}
 use Rattle.sp_lang.specs.Commands.{places_of}
 use Rattle.sp_lang.specs.Words.{words}
 use Rattle.sp_lang.specs.declared.fault.LineFault.TheVariants.{Memory}

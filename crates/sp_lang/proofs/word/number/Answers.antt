@@ -1,4 +1,4 @@
-use Rattle.std.proofs.Common.{◌≡◌, ap, ◌∙◌, sym}
+use Rattle.std.proofs.Common.{ap, ◌∙◌, sym}
 use Rattle.std.specs.Prelude.{Some}
 use Rattle.sp_lang.proofs.Digits.{number-yes, number-none}
 use Rattle.sp_lang.proofs.word.number.Goals as goal

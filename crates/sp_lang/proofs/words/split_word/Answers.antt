@@ -1,4 +1,4 @@
-use Rattle.std.proofs.Common.{◌≡◌, ◌∷◌, sym, ap, ◌∙◌, arith, take, drop}
+use Rattle.std.proofs.Common.{◌∷◌, sym, ap, ◌∙◌, arith, take, drop}
 use Rattle.sp_lang.specs.Words.{words, is_blank}
 use Rattle.sp_lang.proofs.Splitting.{words-behind_blank, words-first, words-none, position_or_len-le}
 use Rattle.sp_lang.proofs.words.split_word.Goals as goal

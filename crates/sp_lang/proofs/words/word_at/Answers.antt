@@ -1,4 +1,4 @@
-use Rattle.std.proofs.Common.{◌≡◌, ap, ◌∙◌, refl, sym, [], List, ℕ, Bor}
+use Rattle.std.proofs.Common.{◌≡◌, ap, ◌∙◌, refl, [], List, ℕ, Bor}
 use Rattle.std.specs.Prelude.{Option, Some, None, unwrap_or}
 use Rattle.std.specs.Option.{option_map}
 use Rattle.std.proofs.lemmas.Iterator.Consumers.{nth_from_yields_List, YieldsList-from_first}
@@ -6,7 +6,8 @@ use Rattle.std.proofs.lemmas.Option.{unwrap_or-slice_get}
 use Rattle.sp_lang.specs.Words.{words}
 use Rattle.sp_lang.proofs.words.word_at.Goals as goal
 
-now_of : (r : Option (Bor (List ℕ))) (d : Bor (List ℕ)) → (unwrap_or r d).now ≡ unwrap_or (option_map (λ w. w.now) r) d.now
+now_of : (r : Option (Bor (List ℕ))) (d : Bor (List ℕ)) →
+    (unwrap_or r d).now ≡ unwrap_or (option_map (λ w. w.now) r) d.now
 now_of None d = refl
 now_of (Some w) d = refl
 

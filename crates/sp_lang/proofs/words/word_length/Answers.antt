@@ -1,4 +1,4 @@
-use Rattle.std.proofs.Common.{◌≡◌, ◌∙◌, sym, ap, length}
+use Rattle.std.proofs.Common.{◌∙◌, ap, length}
 use Rattle.std.specs.Prelude.{unwrap_or}
 use Rattle.sp_lang.specs.Words.{is_blank}
 use Rattle.sp_lang.proofs.Splitting.{position-or_len}
