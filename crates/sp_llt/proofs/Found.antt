@@ -1,13 +1,12 @@
 -- What a builder has found once no row is to come.
-use Rattle.std.proofs.Common.{◌≡◌, ◌≢◌, ℕ, ◌<◌, ◌≤◌, true, false, List, [], map, reverse, refl, sym, ◌∙◌, ap, subst, Option, Some, None, ℤ}
+use Rattle.std.proofs.Common.{◌≡◌, ℕ, List, map, reverse, sym, ◌∙◌, ap, Option, None, ℤ}
 use Rattle.std.specs.List.{find}
 use Rattle.std.specs.Option.{option_map}
-use Rattle.sp_defs.specs.Partition.{IsPartitionOf}
-use Rattle.sp_defs.specs.Power.{FockVector, fock_vector, entries}
-use Rattle.sp_defs.specs.Row.{regular_row, outcome}
+use Rattle.sp_defs.specs.Power.{FockVector, fock_vector}
+use Rattle.sp_defs.specs.Row.{regular_row}
 use Rattle.sp_fock_law.proofs.Vectors.{entries-alike}
 use Rattle.sp_fock_law.specs.Tally.{TallyValue}
-use Rattle.sp_outcome_law.specs.Asking.{next_rank, left, is_past, is_too_large, asked}
+use Rattle.sp_outcome_law.specs.Asking.{next_rank, left, asked}
 use Rattle.sp_outcome_law.proofs.Decided.{decided_end}
 use Rattle.sp_outcome_law.proofs.Left.{left_end}
 use Rattle.sp_outcome_law.proofs.Reached.{all_passed}

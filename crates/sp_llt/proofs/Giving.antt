@@ -2,12 +2,10 @@
 use Rattle.std.proofs.Common.{◌≡◌, ◌≢◌, ℕ, ◌<◌, ◌≤◌, true, false, List, [], length, get_or, refl, sym, ◌∙◌, ap, ap₂, subst, arith}
 use Rattle.std.proofs.Common.{Option, None, Some, Vec}
 use Rattle.std.specs.declared.alloc.Global.{Global}
-use Rattle.std.specs.Option.{option_map}
 use Rattle.std.specs.List.{AllByRecursion}
-use Rattle.sp_defs.specs.Partition.{degree}
 use Rattle.sp_defs.specs.Laurent.{Laurent}
 use Rattle.sp_defs.specs.Power.{FockVector, fock_vector, entries}
-use Rattle.sp_defs.specs.Row.{earlier, regular_row, shares, outcome, Outcome, TooLarge, Stray, Row}
+use Rattle.sp_defs.specs.Row.{earlier, regular_row, shares, Outcome, TooLarge, Stray, Row}
 use Rattle.sp_defs.specs.Within.{ProductWithin}
 use Rattle.sp_laurent.specs.Held.{power_limit}
 use Rattle.sp_row_bounds.specs.Powers.{row_bound}
@@ -19,7 +17,6 @@ use Rattle.sp_core.specs.declared.piece.Key.{Key}
 use Rattle.sp_fock_law.specs.Tally.{TallyValue}
 use Rattle.sp_llt.specs.declared.share.Share.{Share}
 use Rattle.sp_llt.specs.Place.{IsPlace, place, Place, Progress, IsProgress, progress, label}
-use Rattle.sp_llt.specs.Refusals.{outcome_at}
 use Rattle.sp_llt.specs.declared.builder.State.{State}
 use Rattle.sp_llt.specs.declared.builder.State.TheVariants.{Open}
 use Rattle.sp_llt.specs.Reached.{IsOpen, IsBuilder}

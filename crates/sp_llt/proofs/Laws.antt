@@ -1,10 +1,10 @@
 -- The laws of rows, told of what an entry holds.
-use Rattle.std.proofs.Common.{◌≡◌, ◌≢◌, ℕ, suc, ◌+◌, ◌*◌, ◌<◌, ◌≤◌, true, false, List, [], ◌∷◌, map, filter, drop, reverse, length, get_or}
-use Rattle.std.proofs.Common.{refl, sym, ◌∙◌, ap, ap₂, subst, arith, nat_lt}
+use Rattle.std.proofs.Common.{◌≡◌, ◌≢◌, ℕ, ◌+◌, ◌*◌, ◌<◌, true, List, [], map, length, get_or}
+use Rattle.std.proofs.Common.{sym, ◌∙◌, ap, ap₂, subst, arith}
 use Rattle.std.specs.List.{AllByRecursion}
-use Rattle.sp_defs.specs.Partition.{degree, partitions, compare, IsEarlier, IsPartitionOf}
-use Rattle.sp_defs.specs.Laurent.{Laurent, one, IsBarInvariant}
-use Rattle.sp_defs.specs.Power.{Entries, entries, vector_of}
+use Rattle.sp_defs.specs.Partition.{partitions, IsEarlier, IsPartitionOf}
+use Rattle.sp_defs.specs.Laurent.{Laurent, IsBarInvariant}
+use Rattle.sp_defs.specs.Power.{entries}
 use Rattle.sp_defs.specs.Row.{earlier, regular_row, shares}
 use Rattle.sp_defs.specs.Statements.{SameContent}
 use Rattle.sp_defs.specs.Within.{PowersWithin}
@@ -23,8 +23,7 @@ use Rattle.sp_outcome_law.proofs.Earlier.{row_earlier}
 use Rattle.sp_outcome_law.proofs.Listed.{nonempty}
 use Rattle.sp_outcome_law.proofs.Ranks.{length_shares, earlier_at}
 use Rattle.sp_core.specs.declared.piece.Key.{Key}
-use Rattle.sp_llt.specs.declared.share.Share.{Share}
-use Rattle.sp_llt.specs.Place.{IsPlace, place, Place, label, labels}
+use Rattle.sp_llt.specs.Place.{IsPlace, place, label}
 use Rattle.sp_llt.specs.Laws.{ObeysRowLaw, ObeysShareLaw, row_powers}
 use Rattle.sp_llt.specs.Shares.{given_shares, ranked_share}
 use Rattle.sp_llt.proofs.Lists.{all_reverse, all_places}

@@ -1,7 +1,7 @@
 -- With no stray partition the regular row is a row.
-use Rattle.std.proofs.Common.{◌≡◌, ◌≢◌, ℕ, Bool, true, false, ◌&&◌, not, List, [], ◌∷◌, ◌++◌, map, reverse, refl, sym, ◌∙◌, ap}
+use Rattle.std.proofs.Common.{◌≡◌, ◌≢◌, ℕ, Bool, true, false, ◌&&◌, not, List, [], ◌∷◌, reverse, refl, sym, ◌∙◌, ap}
 use Rattle.std.proofs.Common.{subst, ◌⊎◌, inl, inr, None, Ordering, Less, Equal, Greater}
-use Rattle.std.specs.List.{AllByRecursion, find}
+use Rattle.std.specs.List.{AllByRecursion}
 use Rattle.std.specs.Ordering.{is_eq}
 use Rattle.sp_defs.specs.Partition.{degree, regulars, partitions, compare, IsPartition, IsRegularOf}
 use Rattle.sp_defs.specs.Laurent.{Laurent, times, IsPositive}

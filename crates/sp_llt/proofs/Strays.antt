@@ -1,5 +1,5 @@
 -- Stray partitions: the search through the entries of a vector finds what the search through all partitions finds.
-use Rattle.std.proofs.Common.{◌≡◌, ℕ, Bool, true, false, cond, ◌&&◌, not, nat_lt, nat_eq, List, [], ◌∷◌, ◌++◌, map, filter, length}
+use Rattle.std.proofs.Common.{◌≡◌, ℕ, Bool, true, false, cond, ◌&&◌, not, nat_lt, nat_eq, List, [], ◌∷◌, map, filter, length}
 use Rattle.std.proofs.Common.{reverse, refl, sym, ◌∙◌, ap, Option, Some, None, Ordering, Less, Equal, Greater}
 use Rattle.std.specs.List.{find}
 use Rattle.std.specs.Option.{option_map}

@@ -1,5 +1,5 @@
 -- What the laws of rows say of the regular row and the shares that an entry holds.
-use Rattle.std.specs.Prelude.{◌≡◌, ◌≢◌, ℕ, ◌+◌, ◌*◌, ◌<◌, List, []}
+use Rattle.std.specs.Prelude.{◌≡◌, ◌≢◌, ℕ, ◌+◌, ◌*◌, ◌<◌, []}
 use Rattle.std.specs.List.{AllByRecursion}
 use Rattle.sp_defs.specs.Partition.{IsEarlier}
 use Rattle.sp_defs.specs.Laurent.{one, IsBarInvariant}

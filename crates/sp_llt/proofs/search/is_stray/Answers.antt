@@ -1,4 +1,4 @@
-use Rattle.std.proofs.Common.{◌≡◌, Bool, true, false, ap, ap₂, ◌∙◌, sym, not, ◌&&◌}
+use Rattle.std.proofs.Common.{ap, ap₂, ◌∙◌, sym, not, ◌&&◌}
 use Rattle.sp_defs.specs.Row.{is_positive}
 use Rattle.sp_llt.proofs.Positive.{same_test}
 use Rattle.sp_llt.proofs.Strays.{told_other}

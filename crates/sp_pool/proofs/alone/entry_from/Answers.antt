@@ -1,5 +1,5 @@
-use Rattle.std.proofs.Common.{◌≡◌, ℕ, ◌<◌, ◌≤◌, length, refl, sym, ◌∙◌, ap, subst, arith, Some}
-use Rattle.sp_llt.specs.Place.{Place, Progress, place}
+use Rattle.std.proofs.Common.{◌<◌, sym, ◌∙◌, ap, subst, arith, Some}
+use Rattle.sp_llt.specs.Place.{Place, Progress}
 use Rattle.sp_pool.proofs.Firsts.{first_count, first_entry}
 use Rattle.sp_pool.proofs.alone.entry_from.Goals as goal
 

@@ -1,4 +1,4 @@
-use Rattle.std.proofs.Common.{◌≡◌, ℕ, ◌+◌, sym, ◌∙◌, ap, subst, ◌++◌, ◌∷◌, []}
+use Rattle.std.proofs.Common.{◌+◌, sym, ◌∙◌, subst}
 use Rattle.sp_pool.specs.Filled.{HasFirst}
 use Rattle.sp_pool.proofs.Firsts.{first_more}
 use Rattle.sp_pool.proofs.alone.fill_alone.Goals as goal

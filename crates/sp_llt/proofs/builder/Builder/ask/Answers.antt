@@ -1,5 +1,4 @@
-use Rattle.std.proofs.Common.{◌≡◌, ◌≢◌, ℕ, ◌<◌, true, sym, ◌∙◌, subst, Option, None, Some, IfSome}
-use Rattle.std.specs.Option.{option_map}
+use Rattle.std.proofs.Common.{◌≡◌, ◌≢◌, ◌<◌, true, sym, ◌∙◌, subst, None, IfSome}
 use Rattle.sp_defs.specs.Row.{outcome, TooLarge}
 use Rattle.sp_defs.specs.Statements.{SameContent}
 use Rattle.sp_outcome_law.specs.Asking.{asked, next_rank, is_past}

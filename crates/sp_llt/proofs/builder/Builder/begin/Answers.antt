@@ -1,10 +1,10 @@
-use Rattle.std.proofs.Common.{◌≡◌, ℕ, ◌<◌, ◌≤◌, true, List, [], length, sym, ◌∙◌, ap, ap₂, subst, Err}
+use Rattle.std.proofs.Common.{ℕ, ◌<◌, ◌≤◌, List, length, ◌∙◌, ap, ap₂, subst, Err}
 use Rattle.sp_defs.specs.Partition.{is_regular, degree}
 use Rattle.sp_defs.specs.Power.{fock_vector}
 use Rattle.sp_defs.specs.Ladder.{ladder_vector, ladder_weight}
 use Rattle.sp_core.specs.declared.piece.Key.{Key}
 use Rattle.sp_fock_law.specs.Tally.{tally_of, TallyValue}
-use Rattle.sp_llt.specs.Place.{label, labels, IsPlace, place, IsKey}
+use Rattle.sp_llt.specs.Place.{labels, IsPlace, place, IsKey}
 use Rattle.sp_llt.proofs.Labels.{label_facts, read_label}
 use Rattle.sp_llt.proofs.Tallies.{tally_start, shares_start, within_start, past_at_start}
 use Rattle.sp_llt.proofs.builder.Builder.begin.Goals as goal

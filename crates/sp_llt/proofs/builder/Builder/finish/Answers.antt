@@ -2,10 +2,9 @@ use Rattle.std.proofs.Common.{◌≡◌, ℕ, List, reverse, sym, ◌∙◌, ap,
 use Rattle.std.specs.Option.{option_map}
 use Rattle.std.specs.List.{find}
 use Rattle.sp_defs.specs.Power.{FockVector}
-use Rattle.sp_defs.specs.Row.{outcome, TooLarge}
+use Rattle.sp_defs.specs.Row.{outcome}
 use Rattle.sp_outcome_law.specs.Asking.{asked}
 use Rattle.sp_core.specs.declared.piece.Key.{Key}
-use Rattle.sp_llt.specs.declared.share.Share.{Share}
 use Rattle.sp_llt.specs.declared.entry.Found.TheVariants as found
 use Rattle.sp_llt.specs.Place.{Progress, label}
 use Rattle.sp_llt.specs.Search.{is_stray_entry}

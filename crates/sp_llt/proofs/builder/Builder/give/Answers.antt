@@ -1,18 +1,16 @@
-use Rattle.std.proofs.Common.{◌≡◌, ◌≢◌, ℕ, ◌<◌, ◌≤◌, true, false, List, []  , ◌∷◌, ◌++◌, refl, sym, ◌∙◌, ap, ap₂, subst, arith}
-use Rattle.std.proofs.Common.{Option, None, Some, Ok, Err, IfOk}
+use Rattle.std.proofs.Common.{◌≡◌, ◌<◌, ◌≤◌, [], ◌∷◌, ◌++◌, refl, sym, ◌∙◌, ap, ap₂, subst}
+use Rattle.std.proofs.Common.{Some, Err, IfOk}
 use Rattle.std.specs.List.{AllByRecursion}
 use Rattle.sp_defs.specs.Laurent.{Laurent}
 use Rattle.sp_defs.specs.Power.{FockVector}
-use Rattle.sp_defs.specs.Row.{outcome}
 use Rattle.sp_defs.specs.Within.{ProductWithin}
 use Rattle.sp_laurent.specs.Held.{power_limit}
-use Rattle.sp_outcome_law.specs.Asking.{asked, is_too_large, share_past, next_rank, is_past}
+use Rattle.sp_outcome_law.specs.Asking.{asked}
 use Rattle.sp_core.specs.declared.piece.Key.{Key}
-use Rattle.sp_fock_law.specs.Tally.{TallyValue, subtracted, subtraction_weight}
-use Rattle.sp_llt.specs.declared.share.Share.{Share}
+use Rattle.sp_fock_law.specs.Tally.{subtracted, subtraction_weight}
 use Rattle.sp_llt.specs.Place.{Place, Progress, progress, label, place}
 use Rattle.sp_llt.specs.Refusals.{outcome_at}
-use Rattle.sp_llt.specs.Reached.{IsOpen, tally_at, IsWithin}
+use Rattle.sp_llt.specs.Reached.{IsOpen}
 use Rattle.sp_llt.proofs.States.{told_past, told_open}
 use Rattle.sp_llt.proofs.Tallies.{tally_step, past_row, past_totals, within_step, shares_step}
 use Rattle.sp_llt.proofs.Giving.{not_past, not_none, at_most, large_outcome, other_outcome, row_of, giving, opened}
@@ -180,4 +178,3 @@ returns-in-Err-TooLarge c =
     c.in-Open.is c.in-Some.is c.requires.asked c.requires.entry in
     c.too_large-in-Err-TooLarge.ensures
     ∙ ap₂ (λ (b : Progress) j. progress b.key b.rank j) c.self.view_is (sym (ap (λ (p : Place). p.rank) f.entry))
-

@@ -1,4 +1,4 @@
-use Rattle.std.proofs.Common.{◌≡◌, ℕ, List, sym, ◌∙◌, ap, subst, Option, Err}
+use Rattle.std.proofs.Common.{ℕ, List, ap, subst, Err}
 use Rattle.sp_defs.specs.Power.{FockVector, vector_of}
 use Rattle.sp_core.specs.declared.piece.Key.{Key}
 use Rattle.sp_llt.specs.Search.{IsLargeLift}

@@ -1,7 +1,6 @@
-use Rattle.std.proofs.Common.{◌≡◌, ℕ, List, sym, ◌∙◌, ap, subst}
+use Rattle.std.proofs.Common.{sym, subst}
 use Rattle.sp_defs.specs.Power.{FockVector}
-use Rattle.sp_llt.specs.Place.{Place, place, label}
-use Rattle.sp_llt.specs.Found.{IsFound}
+use Rattle.sp_llt.specs.Place.{Place, place}
 use Rattle.sp_llt.specs.Laws.{ObeysRowLaw}
 use Rattle.sp_llt.proofs.Laws.{obeys_row}
 use Rattle.sp_llt.proofs.States.{told_whole}

@@ -1,7 +1,7 @@
-use Rattle.std.proofs.Common.{◌≡◌, ℕ, List, sym, ◌∙◌, ap, subst, None, Some}
-use Rattle.sp_defs.specs.Row.{IsRow, regular_row, Row, Stray}
+use Rattle.std.proofs.Common.{sym, ◌∙◌, ap, subst}
+use Rattle.sp_defs.specs.Row.{IsRow, regular_row}
 use Rattle.sp_outcome_law.proofs.Decided.{row_of, stray_of}
-use Rattle.sp_llt.specs.Place.{Place, place, label}
+use Rattle.sp_llt.specs.Place.{Place, label}
 use Rattle.sp_llt.specs.Refusals.{outcome_at}
 use Rattle.sp_llt.proofs.Labels.{label_facts}
 use Rattle.sp_llt.proofs.NoStray.{row_without_stray}
