@@ -32,7 +32,8 @@ module _ (key : Key) (rank : ℕ) (p : IsPlace (place key rank)) where
   row_left : (t : ℕ) → next_rank key.e mu t ≡ None →
       fock_vector key.degree (left key.e mu t) ≡ fock_vector key.degree (regular_row key.e mu)
   row_left t h = ap (λ es. as_vector es)
-      (entries-alike key.degree (left key.e mu t) (regular_row key.e mu) (λ lambda _. left_end key.e mu t f.is_label h lambda))
+      (entries-alike key.degree (left key.e mu t) (regular_row key.e mu) (λ lambda _. left_end key.e mu t
+      f.is_label h lambda))
     where
       as_vector : List (List ℕ × List (ℤ × ℤ)) → FockVector
       as_vector es = record { degree = key.degree; entries = es }

@@ -1,5 +1,6 @@
 -- What is known where a builder is given the row that it asked for.
-use Rattle.std.proofs.Common.{◌≡◌, ◌≢◌, ℕ, ◌<◌, ◌≤◌, true, false, List, [], length, get_or, refl, sym, ◌∙◌, ap, ap₂, subst, arith}
+use Rattle.std.proofs.Common.{◌≡◌, ◌≢◌, ℕ, ◌<◌, ◌≤◌, true, false, List, [], length, get_or, refl}
+use Rattle.std.proofs.Common.{sym, ◌∙◌, ap, ap₂, subst, arith}
 use Rattle.std.proofs.Common.{Option, None, Some, Vec}
 use Rattle.std.specs.declared.alloc.Global.{Global}
 use Rattle.std.specs.List.{AllByRecursion}
@@ -93,7 +94,8 @@ module _ (b : Progress) (key : Key) (rank t : ℕ) (state : State) (tally : Tall
 
   pub giving : GivenFacts key rank t share entry
   giving = given_facts key rank t tally shares_of.items share entry builder.place.place opened
-      (subst (λ (p : Progress). asked p.key.e p.key.limit (label p.key p.rank) p.reached ≡ Some entry.rank) (sym view) a)
+      (subst (λ (p : Progress). asked p.key.e p.key.limit (label p.key p.rank) p.reached ≡ Some entry.rank)
+      (sym view) a)
       (k ∙ ap (λ (p : Progress). p.key) (sym view))
 
 -- ---- the powers in the product of a share and its row

@@ -48,7 +48,8 @@ module _ (key : Key) (rank : ℕ) (p : IsPlace (place key rank)) where
   bound_is = ap₂ (λ k d. (k + 1) * (d * d)) f.count f.total
 
   powers : AllByRecursion (λ t. PowersWithin (row_powers (place key rank)) t.1) (entries n (regular_row e mu))
-  powers = subst (λ d. AllByRecursion (λ t. PowersWithin (row_powers (place key rank)) t.1) (entries d (regular_row e mu)))
+  powers = subst (λ d. AllByRecursion (λ t. PowersWithin (row_powers (place key rank)) t.1) (entries d
+      (regular_row e mu)))
       f.total
       (row_entries e mu (row_powers (place key rank)) f.is_label (omega (arith, bound_is)))
 
@@ -74,7 +75,8 @@ module _ (key : Key) (rank : ℕ) (p : IsPlace (place key rank)) where
   share_obeys j lt nz = record {
     earlier = omega (arith, count, low);
     nonzero = nonempty a.1 nz;
-    invariant = all_at (λ s. IsBarInvariant s.1) (shares e mu) j ([], []) (rows_law e mu f.is_label).shares_invariant lt;
+    invariant = all_at (λ s. IsBarInvariant s.1) (shares e mu) j ([], []) (rows_law e mu
+        f.is_label).shares_invariant lt;
     content = subst (SameContent e mu) (at ∙ ap (label key) (sym count))
         (all_at (λ s. s.1 ≢ [] → SameContent e mu s.0) (shares e mu) j ([], [])
         (row_content_law e mu f.is_label).shares_at lt (nonempty a.1 nz));

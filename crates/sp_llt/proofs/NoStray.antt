@@ -46,7 +46,8 @@ module _ (e : ℕ) (mu : List ℕ) (is : IsLabel e mu) where
       from : (f : List ℕ × Laurent) × OfDegree f.0 × (times f.1 (ladder_vector e f.0 lambda) ≢ []) →
           degree lambda ≡ degree mu
       from (f, (label, total), nz) =
-          sym ((ladder_law e f.0 label).below lambda pl (λ z. nz (ap (times f.1) z ∙ times_nought f.1))).one_degree ∙ total
+          sym ((ladder_law e f.0 label).below lambda pl (λ z. nz (ap (times f.1) z ∙ times_nought
+          f.1))).one_degree ∙ total
 
   -- ---- no partition is stray
 

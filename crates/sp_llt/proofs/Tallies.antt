@@ -1,5 +1,6 @@
 -- What a builder keeps: the tally, and the shares so far, at the start and from rank to rank.
-use Rattle.std.proofs.Common.{◌≡◌, ℕ, ◌+◌, ◌*◌, ◌<◌, ◌≤◌, Bool, true, false, ◌||◌, List, [], ◌∷◌, ◌++◌, map, filter, length}
+use Rattle.std.proofs.Common.{◌≡◌, ℕ, ◌+◌, ◌*◌, ◌<◌, ◌≤◌, Bool, true, false, ◌||◌, List}
+use Rattle.std.proofs.Common.{[], ◌∷◌, ◌++◌, map, filter, length}
 use Rattle.std.proofs.Common.{reverse, refl, sym, ◌∙◌, ap, ap₂, arith, Some, nat_lt, lt-ltb, le-ltb, ℤ}
 use Rattle.std.proofs.lemmas.Int.{ints}
 use Rattle.std.proofs.lemmas.List.{reverse-append}
@@ -16,7 +17,8 @@ use Rattle.sp_shapes.proofs.Order.{all_mono}
 use Rattle.sp_fock_law.specs.Tally.{TallyValue, totals, tally_of, subtracted, subtraction_weight, grown_total}
 use Rattle.sp_fock_law.proofs.Vectors.{entries-alike, vector_of-entries}
 use Rattle.sp_fock_law.proofs.Totals.{total_of-totals}
-use Rattle.sp_outcome_law.specs.Asking.{share_at, given, next_rank, left, total, is_past, total_past, share_past, is_too_large}
+use Rattle.sp_outcome_law.specs.Asking.{share_at, given, next_rank, left, total, is_past}
+use Rattle.sp_outcome_law.specs.Asking.{total_past, share_past, is_too_large}
 use Rattle.sp_outcome_law.proofs.Reached.{given_none, step}
 use Rattle.sp_outcome_law.proofs.Left.{left_start, total_start, left_step, total_step}
 use Rattle.sp_outcome_law.proofs.Ranks.{length_shares}
@@ -101,7 +103,11 @@ module _ (key : Key) (rank : ℕ) (p : IsPlace (place key rank)) where
   pub shares_start : [] ≡ given_shares e mu rank
   unfolding given_shares
   shares_start =
-      sym (ap (λ fs. reverse (map (ranked_share e) fs)) (given_none e mu rank (omega (arith, start, length_shares e mu))))
+      sym (ap (λ fs. reverse (map (ranked_share e) fs)) (given_none e mu rank (omega (
+        arith,
+        start,
+        length_shares e mu,
+      ))))
 
   pub within_start : ladder_weight e mu ≤ key.limit → IsWithin key mu rank
   within_start le =
@@ -120,7 +126,8 @@ module _ (key : Key) (rank : ℕ) (p : IsPlace (place key rank)) where
     abbrev row : FockVector
     row = fock_vector n (regular_row e nu)
 
-    grown : (lambda : List ℕ) → IsPartitionOf n lambda → grown_total (tally_at key mu t) alpha row lambda ≡ total e mu j lambda
+    grown : (lambda : List ℕ) → IsPartitionOf n lambda → grown_total (tally_at key mu t) alpha row lambda ≡
+        total e mu j lambda
     grown lambda h =
         ap₂ (λ x q. x + size alpha * size q) (total_of-totals n (total e mu t) lambda h)
         (vector_of-entries n (regular_row e nu) lambda h)

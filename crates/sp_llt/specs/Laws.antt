@@ -13,7 +13,8 @@ use Rattle.sp_llt.specs.Place.{Place, label}
 abbrev pub row_powers : Place → ℕ
 row_powers p = (p.rank + 1) * (p.key.degree * p.key.degree)
 
--- The coefficient at mu is 1, every other partition is earlier than mu, all have mu's content, and the powers are within
+-- The coefficient at mu is 1, every other partition is earlier than mu, all have mu's content, and the powers are
+-- within
 -- a bound.
 pub record ObeysRowLaw (p : Place) (es : Entries) : Type 0 where
   pub at_mu : vector_of es (label p.key p.rank) ≡ one

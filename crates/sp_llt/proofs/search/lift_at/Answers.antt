@@ -1,4 +1,5 @@
-use Rattle.std.proofs.Common.{◌≡◌, ℕ, ◌≤◌, ◌<◌, sym, ◌∙◌, ap, subst, Bool, true, false, ◌≢◌, [], IsTrue, ◌↔◌, arith, refl}
+use Rattle.std.proofs.Common.{◌≡◌, ℕ, ◌≤◌, ◌<◌, sym, ◌∙◌, ap, subst, Bool, true, false}
+use Rattle.std.proofs.Common.{◌≢◌, [], IsTrue, ◌↔◌, arith, refl}
 use Rattle.sp_defs.specs.Laurent.{Laurent, lift, size, IsPositive}
 use Rattle.sp_defs.specs.Power.{vector_of}
 use Rattle.sp_llt.proofs.Positive.{positive_lift, lift_positive, nothing}

@@ -34,7 +34,8 @@ returns-in-TooLarge-clause-shares c =
     c.self.view_is
     (λ fits. absurd
     (fits
-    (past_outcome c.self.inside.ctx.now c.self.inside.rank c.self.invariant.place.place c.self.inside.reached (past c))))
+    (past_outcome c.self.inside.ctx.now c.self.inside.rank c.self.invariant.place.place c.self.inside.reached
+    (past c))))
 
 -- ---- a next share, or none
 

@@ -19,10 +19,13 @@ pub new-requires : goal.new-requires
 new-requires c =
     let key = c.self.inside.ctx.now in
     let place = c.self.invariant.place.place in
-    let is = read_label key c.self.inside.rank c.regulars.result.now c.index-regulars-rank.result c.regulars.ensures.value
+    let is = read_label key c.self.inside.rank c.regulars.result.now c.index-regulars-rank.result
+    c.regulars.ensures.value
     place.rank c.index-regulars-rank.is in
-    let past = told_past key c.self.inside.rank c.self.inside.reached c.self.inside.state c.self.invariant c.in-TooLarge.is in
-    subst (λ (k : Key). IsKept k c.self.inside.rank c.index-regulars-rank.result found.TooLarge) (sym c.key.ensures.value)
+    let past = told_past key c.self.inside.rank c.self.inside.reached c.self.inside.state c.self.invariant
+    c.in-TooLarge.is in
+    subst (λ (k : Key). IsKept k c.self.inside.rank c.index-regulars-rank.result found.TooLarge) (sym
+    c.key.ensures.value)
     (record {
       place = place;
       mu = is;
