@@ -5,3 +5,4 @@ pub mod Fault
 pub mod Sum
 pub mod Print
 pub mod Growth
+pub mod Cells
