@@ -1,1 +1,12 @@
 pub mod Existence
+pub mod Lists
+pub mod Positive
+pub mod Strays
+pub mod Labels
+pub mod Asks
+pub mod States
+pub mod Tallies
+pub mod Giving
+pub mod Found
+pub mod Laws
+pub mod NoStray

@@ -1,1 +1,9 @@
 pub mod Existence
+pub mod Place
+pub mod Shares
+pub mod Found
+pub mod Laws
+pub mod Refusals
+pub mod Search
+pub mod Reached
+pub mod Table

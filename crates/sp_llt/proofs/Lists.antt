@@ -1,0 +1,63 @@
+-- Facts on lists: what holds of all elements, and the last that passes a test.
+use Rattle.std.proofs.Common.{◌≡◌, ℕ, suc, ◌<◌, Bool, true, false, cond, List, []}
+use Rattle.std.proofs.Common.{◌∷◌, ◌++◌, map, length, reverse, get_or}
+use Rattle.std.proofs.Common.{refl, sym, ◌∙◌, ap, ap₂, subst, arith, Option, Some, None}
+use Rattle.std.specs.List.{AllByRecursion, find}
+use Rattle.std.proofs.lemmas.List.{reverse-append}
+use Rattle.sp_lists.proofs.Elements.{all_append, all_left, all_right}
+
+-- ---- what holds of all elements
+
+pub all_reverse : {X : Type 0} (P : X → Type 0) (xs : List X) → AllByRecursion P xs → AllByRecursion P (reverse xs)
+all_reverse P [] h = tt
+all_reverse P (x ∷ xs) (h, hs) =
+    subst (AllByRecursion P) (sym (reverse-append (x ∷ []) xs))
+    (all_append P (reverse xs) (x ∷ []) (all_reverse P xs hs) (h, tt))
+
+pub all_of_reverse : {X : Type 0} (P : X → Type 0) (xs : List X) → AllByRecursion P (reverse xs) → AllByRecursion P xs
+all_of_reverse P [] h = tt
+all_of_reverse P (x ∷ xs) h =
+    let k = subst (AllByRecursion P) (reverse-append (x ∷ []) xs) h in
+    ((all_right P (reverse xs) (x ∷ []) k).0, all_of_reverse P xs (all_left P (reverse xs) (x ∷ []) k))
+
+-- what holds at each place
+pub all_places : {X : Type 0} (P : X → Type 0) (xs : List X) (d : X) →
+    ((j : ℕ) → j < length xs → P (get_or xs j d)) → AllByRecursion P xs
+all_places P [] d h = tt
+all_places P (x ∷ xs) d h = (h 0 (omega arith), all_places P xs d (λ j lt. h (suc j) (omega (arith, lt))))
+
+pub map_alike : {X Y : Type 0} (f g : X → Y) (xs : List X) → AllByRecursion (λ x. f x ≡ g x) xs → map f xs ≡ map g xs
+map_alike f g [] h = refl
+map_alike f g (x ∷ xs) (h, hs) = ap₂ (λ y ys. y ∷ ys) h (map_alike f g xs hs)
+
+-- ---- the last that passes
+
+abbrev pub found_first : {X : Type 0} → Option X → Option X → Option X
+found_first None o = o
+found_first (Some x) o = Some x
+
+abbrev pub if_passes : {X : Type 0} → (X → Bool) → X → Option X
+if_passes q x = cond (q x) (Some x) None
+
+find-append : {X : Type 0} (q : X → Bool) (xs ys : List X) → find q (xs ++ ys) ≡ found_first (find q xs) (find q ys)
+find-append q [] ys = refl
+find-append q (x ∷ xs) ys = tested (q x) (find-append q xs ys)
+  where
+    tested : (b : Bool) → find q (xs ++ ys) ≡ found_first (find q xs) (find q ys) →
+        cond b (Some x) (find q (xs ++ ys)) ≡ found_first (cond b (Some x) (find q xs)) (find q ys)
+    tested true ih = refl
+    tested false ih = ih
+
+pub find_back : {X : Type 0} (q : X → Bool) (x : X) (xs : List X) →
+    find q (reverse (x ∷ xs)) ≡ found_first (find q (reverse xs)) (if_passes q x)
+find_back q x xs = ap (find q) (reverse-append (x ∷ []) xs) ∙ find-append q (reverse xs) (x ∷ [])
+
+-- where none is found, none passes
+pub find_none : {X : Type 0} (q : X → Bool) (xs : List X) → find q xs ≡ None → AllByRecursion (λ x. q x ≡ false) xs
+find_none q [] h = tt
+find_none q (x ∷ xs) h = tested (q x) refl (find_none q xs) h
+  where
+    tested : (b : Bool) → q x ≡ b → (find q xs ≡ None → AllByRecursion (λ x. q x ≡ false) xs) →
+        cond b (Some x) (find q xs) ≡ None → (q x ≡ false) × AllByRecursion (λ x. q x ≡ false) xs
+    tested true e ih h = absurd (cc)
+    tested false e ih h = (e, ih h)
