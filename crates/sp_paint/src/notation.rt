@@ -3,7 +3,8 @@ ghost use Rattle.std.specs.Prelude.{◌≡◌, ◌++◌, take, length, flat_map,
 ghost use Rattle.sp_paint.specs.Notation.{exponent_text, factor_text, first_term_text, later_term_text};
 ghost use Rattle.sp_paint.specs.Notation.{polynomial_text, power_text, term_text};
 
-use itoa::{Buffer, Integer};
+use crate::text::put_number;
+use itoa::Integer;
 use sp_laurent::Laurent;
 use std::alloc::AllocError;
 
@@ -14,14 +15,6 @@ pub(crate) enum Notation {
     Braced,
     /// A star stands between a coefficient and v.
     Starred,
-}
-
-/// Appends the decimal text of a number.
-pub(crate) fn put_number<N: Integer>(number: N, out: &mut Vec<u8>) -> Result<(), AllocError>
-    ensures text { OnOk result (out.new.items ≡ out.old.items ++ N.text number) }
-    ensures kept { OnErr result (out.new.items ≡ out.old.items) }
-{
-    out.extend_from_slice(Buffer::new().format(number).as_bytes())
 }
 
 /// Appends an exponent with its caret. An `Err` may leave more at the end of `out`, here and below.
