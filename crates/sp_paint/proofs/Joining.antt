@@ -42,6 +42,18 @@ joined-more f xs i d lt =
     ∙ ap (λ comma. joined_by (codes ",") (map f (take i xs)) ++ (comma ++ f (get_or xs i d)))
     (comma-map f (take i xs) ∙ comma-take xs i lt)
 
+pub written_item : {X : Type 0} (f : X → List ℕ) (xs : List X) (i : ℕ) (x : X) (old before now : List ℕ) →
+    i < length xs → x ≡ get_or xs i x → before ≡ old ++ joined_by (codes ",") (map f (take i xs)) →
+    now ≡ before ++ (cond (nat_eq i 0) [] (codes ",") ++ f x) →
+    now ≡ old ++ joined_by (codes ",") (map f (take (i + 1) xs))
+written_item {X = X} f xs i x old before now lt is h e =
+    e ∙ ap (λ t. t ++ item x) h ∙ append_assoc old (joined_by (codes ",") (map f (take i xs))) (item x)
+    ∙ ap (λ t. old ++ t) (ap (λ y. joined_by (codes ",") (map f (take i xs)) ++ item y) is
+    ∙ sym (joined-more f xs i x lt))
+  where
+    item : X → List ℕ
+    item y = cond (nat_eq i 0) [] (codes ",") ++ f y
+
 -- ---- one more distinct number
 
 eq_turned : (p q : ℕ) → nat_eq p q ≡ nat_eq q p

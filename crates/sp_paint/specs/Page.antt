@@ -28,10 +28,13 @@ plain_column_text mu = codes " " ++ partition_text mu
 abbrev pub plain_row_text : List ℕ × List Laurent → List ℕ
 plain_row_text (lambda, cells) = partition_text lambda ++ codes ":" ++ flat_map plain_cell_text cells ++ codes "\n"
 
--- A line for the columns, and a line for each line of the grid (this project's own).
+-- The line for the columns (this project's own).
+abbrev pub plain_head : List (List ℕ) → List ℕ
+plain_head columns = codes "columns" ++ flat_map plain_column_text columns ++ codes "\n"
+
+-- Then there is a line for each line of the grid (this project's own).
 abbrev pub plain_page : GridValue → List ℕ
-plain_page g =
-    codes "columns" ++ flat_map plain_column_text g.columns ++ codes "\n" ++ flat_map plain_row_text (rows_of g)
+plain_page g = plain_head g.columns ++ flat_map plain_row_text (rows_of g)
 
 -- ---- the form Tex
 
@@ -49,15 +52,21 @@ tex_column_text mu = codes " & " ++ tex_partition_text mu
 abbrev pub tex_row_text : List ℕ × List Laurent → List ℕ
 tex_row_text (lambda, cells) = tex_partition_text lambda ++ flat_map tex_cell_text cells ++ codes " \\\\\n"
 
--- What stands before the lines: the number of the page, one c for each column, and the columns.
-abbrev pub tex_head : ℕ → List (List ℕ) → List ℕ
-tex_head number columns =
+-- The number of the page, and one c for each column (this project's own).
+abbrev pub tex_opening : ℕ → List (List ℕ) → List ℕ
+tex_opening number columns =
     codes "% table " ++ decimal number ++ codes "\n\\begin{tabular}{l|" ++ flat_map (λ mu. codes "c") columns
-    ++ codes "}\n" ++ flat_map tex_column_text columns ++ codes " \\\\\n"
+    ++ codes "}\n"
+
+-- The line for the columns (this project's own).
+abbrev pub tex_head : List (List ℕ) → List ℕ
+tex_head columns = flat_map tex_column_text columns ++ codes " \\\\\n"
 
 -- A table that is numbered, of LaTeX's environment tabular (this project's own).
 abbrev pub tex_page : ℕ → GridValue → List ℕ
-tex_page number g = tex_head number g.columns ++ flat_map tex_row_text (rows_of g) ++ codes "\\end{tabular}\n"
+tex_page number g =
+    tex_opening number g.columns ++ tex_head g.columns ++ flat_map tex_row_text (rows_of g)
+    ++ codes "\\end{tabular}\n"
 
 -- ---- the form Gap
 

@@ -28,7 +28,8 @@ fn put_rows(grid: &Grid, out: &mut Vec<u8>) -> Result<(), AllocError>
         out.new.items ≡ out.old.items ++ joined_by (codes ",") (map gap_row_text grid.now.cells)) }
     ensures kept { OnErr result (take (length out.old.items) out.new.items ≡ out.old.items) }
 {
-    for place in 0..grid.lines().len() {
+    let lines = grid.lines();
+    for place in 0..lines.len() {
         put_next_row(place, grid.row(place), out)?;
     }
     Ok(())
@@ -52,8 +53,17 @@ fn put_cells(cells: &[Laurent], out: &mut Vec<u8>) -> Result<(), AllocError>
     ensures kept { OnErr result (take (length out.old.items) out.new.items ≡ out.old.items) }
 {
     for place in 0..cells.len() {
-        put_comma(place, out)?;
-        put_polynomial(Notation::Starred, &cells[place], out)?;
+        put_next_cell(place, &cells[place], out)?;
     }
     Ok(())
+}
+
+fn put_next_cell(place: usize, cell: &Laurent, out: &mut Vec<u8>) -> Result<(), AllocError>
+    ensures text { OnOk result (
+        out.new.items ≡ out.old.items
+        ++ (cond (nat_eq place 0) [] (codes ",") ++ polynomial_text Notation.Starred cell.now)) }
+    ensures kept { OnErr result (take (length out.old.items) out.new.items ≡ out.old.items) }
+{
+    put_comma(place, out)?;
+    put_polynomial(Notation::Starred, cell, out)
 }

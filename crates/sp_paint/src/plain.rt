@@ -1,6 +1,6 @@
 //! The form Plain: lines of words.
 ghost use Rattle.std.specs.Prelude.{◌≡◌, ◌++◌, take, length, flat_map, OnOk, OnErr};
-ghost use Rattle.sp_paint.specs.Page.{plain_cell_text, plain_column_text, plain_page, plain_row_text, rows_of};
+ghost use Rattle.sp_paint.specs.Page.{plain_cell_text, plain_column_text, plain_head, plain_page, plain_row_text, rows_of};
 
 use sp_fock::Grid;
 use sp_laurent::Laurent;
@@ -17,10 +17,17 @@ pub(crate) fn put_plain_page(
     ensures text { OnOk result (out.new.items ≡ out.old.items ++ plain_page grid.now) }
     ensures kept { OnErr result (take (length out.old.items) out.new.items ≡ out.old.items) }
 {
-    out.extend_from_slice(b"columns")?;
-    put_columns(alloc, grid.columns(), out)?;
-    out.push(b'\n')?;
+    put_head(alloc, grid.columns(), out)?;
     put_rows(alloc, grid, out)
+}
+
+fn put_head(alloc: Global, columns: &[Partition], out: &mut Vec<u8>) -> Result<(), AllocError>
+    ensures text { OnOk result (out.new.items ≡ out.old.items ++ plain_head columns.now) }
+    ensures kept { OnErr result (take (length out.old.items) out.new.items ≡ out.old.items) }
+{
+    out.extend_from_slice(b"columns")?;
+    put_columns(alloc, columns, out)?;
+    Ok(out.push(b'\n')?)
 }
 
 fn put_columns(

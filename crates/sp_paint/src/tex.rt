@@ -1,7 +1,7 @@
 //! The form Tex: tables in LaTeX.
 ghost use Rattle.std.specs.Prelude.{◌≡◌, ◌++◌, take, length, flat_map, codes, OnOk, OnErr};
-ghost use Rattle.sp_paint.specs.Page.{rows_of, tex_cell_text, tex_column_text, tex_head, tex_page, tex_partition_text};
-ghost use Rattle.sp_paint.specs.Page.{tex_row_text};
+ghost use Rattle.sp_paint.specs.Page.{rows_of, tex_cell_text, tex_column_text, tex_head, tex_opening, tex_page};
+ghost use Rattle.sp_paint.specs.Page.{tex_partition_text, tex_row_text};
 
 use crate::notation::{Notation, put_polynomial};
 use crate::parts::put_partition;
@@ -16,21 +16,28 @@ pub(crate) fn put_tex_page(number: u64, grid: &Grid, out: &mut Vec<u8>) -> Resul
     ensures text { OnOk result (out.new.items ≡ out.old.items ++ tex_page number grid.now) }
     ensures kept { OnErr result (take (length out.old.items) out.new.items ≡ out.old.items) }
 {
-    put_head(number, grid.columns(), out)?;
+    put_opening(number, grid.columns(), out)?;
+    put_head(grid.columns(), out)?;
     put_rows(grid, out)?;
     out.extend_from_slice(b"\\end{tabular}\n")
 }
 
-// What stands before the lines.
-fn put_head(number: u64, columns: &[Partition], out: &mut Vec<u8>) -> Result<(), AllocError>
-    ensures text { OnOk result (out.new.items ≡ out.old.items ++ tex_head number columns.now) }
+// The number of the page and the form of the columns.
+fn put_opening(number: u64, columns: &[Partition], out: &mut Vec<u8>) -> Result<(), AllocError>
+    ensures text { OnOk result (out.new.items ≡ out.old.items ++ tex_opening number columns.now) }
     ensures kept { OnErr result (take (length out.old.items) out.new.items ≡ out.old.items) }
 {
     out.extend_from_slice(b"% table ")?;
     put_number(number, out)?;
     out.extend_from_slice(b"\n\\begin{tabular}{l|")?;
     put_letters(columns, out)?;
-    out.extend_from_slice(b"}\n")?;
+    out.extend_from_slice(b"}\n")
+}
+
+fn put_head(columns: &[Partition], out: &mut Vec<u8>) -> Result<(), AllocError>
+    ensures text { OnOk result (out.new.items ≡ out.old.items ++ tex_head columns.now) }
+    ensures kept { OnErr result (take (length out.old.items) out.new.items ≡ out.old.items) }
+{
     put_columns(columns, out)?;
     out.extend_from_slice(b" \\\\\n")
 }

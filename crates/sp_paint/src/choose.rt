@@ -1,0 +1,15 @@
+//! The choice of a painter by its name.
+ghost use Rattle.std.specs.Prelude.{◌≡◌, map, position};
+ghost use Rattle.std.specs.Str.{bytes_eq};
+ghost use Rattle.sp_paint.specs.State.{PainterState, name_of};
+
+use crate::Painter;
+
+/// The place of the first painter with this name. It takes no memory.
+pub fn choose(painters: &[Box<dyn Painter>], name: &[u8]) -> Option<usize>
+    ensures { result ≡ position (λ p. bytes_eq (name_of p) name.now) (map (λ b. state b) painters.now) }
+{
+    painters
+        .iter()
+        .position(|painter| painter.name().as_bytes() == name)
+}
