@@ -1,7 +1,7 @@
 //! Painters: they write grids as texts, page after page.
 #![tactic(auto)]
 
-mod choose;
+mod choice;
 mod form;
 mod gap;
 mod kinds;
@@ -13,6 +13,7 @@ mod plain;
 mod tex;
 mod text;
 
+pub use choice::choose;
 pub use form::Form;
 pub use kinds::{Gap, Plain, Tex};
 pub use page::{put_page, put_trailer};

@@ -41,11 +41,7 @@ pub(crate) fn put_exponent<N: Integer>(
 
 // A coefficient in front of v. 1 isn't written.
 #[tactic(auto, unfolding(crate::specs::Notation::factor_text))]
-fn put_factor(
-    notation: Notation,
-    coefficient: u128,
-    out: &mut Vec<u8>,
-) -> Result<(), AllocError>
+fn put_factor(notation: Notation, coefficient: u128, out: &mut Vec<u8>) -> Result<(), AllocError>
     ensures text { OnOk result (out.new.items ≡ out.old.items ++ factor_text notation coefficient) }
     ensures kept { OnErr result (take (length out.old.items) out.new.items ≡ out.old.items) }
 {

@@ -16,12 +16,7 @@ pub trait Painter: Drop {
         ensures { result.now ≡ name_of (state self.now) };
 
     /// Appends a page that shows the grid. An `Err` leaves the painter and `out` as they were.
-    fn page(
-        &mut self,
-        alloc: Global,
-        grid: &Grid,
-        out: &mut Vec<u8>,
-    ) -> Result<(), AllocError>
+    fn page(&mut self, alloc: Global, grid: &Grid, out: &mut Vec<u8>) -> Result<(), AllocError>
         ensures text { OnOk result (out.new.items ≡ out.old.items ++ page_of (state self.old) grid.now) }
         ensures next { OnOk result (state self.new ≡ next_of (state self.old) grid.now) }
         ensures kept { OnErr result (state self.new ≡ state self.old) }

@@ -59,12 +59,7 @@ fn count(parts: &[u8], part: u8) -> usize
 }
 
 // A part that occurs so many times.
-fn put_part(
-    notation: Notation,
-    part: u8,
-    count: usize,
-    out: &mut Vec<u8>,
-) -> Result<(), AllocError>
+fn put_part(notation: Notation, part: u8, count: usize, out: &mut Vec<u8>) -> Result<(), AllocError>
     ensures text { OnOk result (out.new.items ≡ out.old.items ++ part_text notation part count) }
     ensures kept { OnErr result (take (length out.old.items) out.new.items ≡ out.old.items) }
 {

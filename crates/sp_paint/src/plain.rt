@@ -30,11 +30,7 @@ fn put_head(alloc: Global, columns: &[Partition], out: &mut Vec<u8>) -> Result<(
     Ok(out.push(b'\n')?)
 }
 
-fn put_columns(
-    alloc: Global,
-    columns: &[Partition],
-    out: &mut Vec<u8>,
-) -> Result<(), AllocError>
+fn put_columns(alloc: Global, columns: &[Partition], out: &mut Vec<u8>) -> Result<(), AllocError>
     ensures text { OnOk result (out.new.items ≡ out.old.items ++ flat_map plain_column_text columns.now) }
     ensures kept { OnErr result (take (length out.old.items) out.new.items ≡ out.old.items) }
 {

@@ -7,5 +7,8 @@ pub returns-clause-text : goal.returns-clause-text
 returns-clause-text c =
     let apart : int_eq c.args.term.0 (pos 0) ≡ false = search rules in
     let size : c.unsigned_abs-2.result ≡ unsigned_abs c.args.term.1 = search rules in
-    search (rules, written_term c.args.notation c.args.term.0 c.args.term.1 _ _ _ c.put_power.new.out.items apart size
-    c.in_ok-put_factor.ensures.text)
+    search (
+      rules,
+      written_term c.args.notation c.args.term.0 c.args.term.1 _ _ _ c.put_power.new.out.items apart size
+          c.in_ok-put_factor.ensures.text,
+    )

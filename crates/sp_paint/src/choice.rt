@@ -9,7 +9,16 @@ use crate::Painter;
 pub fn choose(painters: &[Box<dyn Painter>], name: &[u8]) -> Option<usize>
     ensures { result ≡ position (λ p. bytes_eq (name_of p) name.now) (map (λ b. state b) painters.now) }
 {
-    painters
-        .iter()
-        .position(|painter| painter.name().as_bytes() == name)
+    for (place, painter) in painters.iter().enumerate() {
+        if has_name(painter, name) {
+            return Some(place);
+        }
+    }
+    None
+}
+
+fn has_name(painter: &Box<dyn Painter>, name: &[u8]) -> bool
+    ensures { result ≡ bytes_eq (name_of (state painter.now)) name.now }
+{
+    painter.name().as_bytes() == name
 }
