@@ -1,6 +1,7 @@
 -- The first place in a list at which a test passes.
-use Rattle.std.proofs.Common.{◌≡◌, ℕ, zero, suc, ◌+◌, ◌<◌, ◌≤◌, Bool, true, false, cond, not, nat_lt, List, [], ◌∷◌, ◌++◌}
-use Rattle.std.proofs.Common.{Option, Some, None, map, take, length, get_or, refl, sym, ◌∙◌, ap, ap₂, subst, arith}
+use Rattle.std.proofs.Common.{◌≡◌, ℕ, zero, suc, ◌+◌, ◌<◌, ◌≤◌, Bool, true, false, cond, not, nat_lt, List, []}
+use Rattle.std.proofs.Common.{◌∷◌, ◌++◌, Some, None, map, take, length, get_or, refl, sym, ◌∙◌, ap, ap₂}
+use Rattle.std.proofs.Common.{subst, arith}
 use Rattle.std.specs.List.{AllByRecursion, position, position_or_len}
 use Rattle.std.proofs.lemmas.List.{length-map, take_all, take_more}
 use Rattle.std.proofs.lemmas.Bool.Decides.{nat_tests}
@@ -46,5 +47,6 @@ module _ {X Y : Type 0} (test : Y → Bool) (f : X → Y) where
 
   pub position_absent : (xs : List X) (i : ℕ) → length xs ≤ i → NoneOf (take i xs) → None ≡ position test (map f xs)
   position_absent xs i le h =
-      sym (ap (λ n. cond (nat_lt n (length (map f xs))) (Some n) None) (place_absent xs (subst NoneOf (take_all i xs le) h))
+      sym (ap (λ n. cond (nat_lt n (length (map f xs))) (Some n) None)
+      (place_absent xs (subst NoneOf (take_all i xs le) h))
       ∙ ap (λ b. cond b (Some (length (map f xs))) None) (not_below (length (map f xs))))

@@ -1,7 +1,7 @@
 -- Lists of texts with commas between them, made item by item.
-use Rattle.std.proofs.Common.{◌≡◌, ℕ, zero, suc, ◌+◌, ◌<◌, Bool, true, false, cond, not, nat_eq, ◌||◌, List, [], ◌∷◌, ◌++◌}
-use Rattle.std.proofs.Common.{map, filter, take, length, get_or, codes, refl, sym, ◌∙◌, ap, ap₂, arith, append_assoc, append-nil}
-use Rattle.std.proofs.Common.{ne_eqb}
+use Rattle.std.proofs.Common.{◌≡◌, ℕ, zero, suc, ◌+◌, ◌<◌, Bool, true, false, cond, not, nat_eq, ◌||◌, List, []}
+use Rattle.std.proofs.Common.{◌∷◌, ◌++◌, map, filter, take, length, get_or, codes, refl, sym, ◌∙◌, ap, arith}
+use Rattle.std.proofs.Common.{append_assoc, append-nil, ne_eqb}
 use Rattle.std.specs.List.{list_any}
 use Rattle.std.proofs.lemmas.List.{map-append, take_more}
 use Rattle.sp_lists.proofs.Elements.{filter_append}
@@ -64,7 +64,10 @@ new_or_not : (p q : ℕ) (known : Bool) →
 new_or_not p q true = elim (nat_eq p q) as (λ b. [] ≡ cond (b || true) [] (q ∷ [])) [ true ↦ refl | false ↦ refl ]
 new_or_not p q false =
     ap (λ b. cond (not b) (q ∷ []) []) (eq_turned q p)
-    ∙ elim (nat_eq p q) as (λ b. cond (not b) (q ∷ []) [] ≡ cond (b || false) [] (q ∷ [])) [ true ↦ refl | false ↦ refl ]
+    ∙ elim (nat_eq p q) as (λ b. cond (not b) (q ∷ []) [] ≡ cond (b || false) [] (q ∷ [])) [
+      | true ↦ refl
+      | false ↦ refl
+    ]
 
 distinct-snoc : (xs : List ℕ) (q : ℕ) →
     distinct (xs ++ q ∷ []) ≡ distinct xs ++ cond (list_any (λ x. nat_eq x q) xs) [] (q ∷ [])

@@ -1,6 +1,6 @@
 -- A partition's text, part by part.
-use Rattle.std.proofs.Common.{◌≡◌, ℕ, ◌+◌, ◌<◌, ◌≤◌, cond, nat_eq, List, [], ◌∷◌, ◌++◌, map, count_by, take, length}
-use Rattle.std.proofs.Common.{slice_index, codes, refl, sym, ◌∙◌, ap, append_assoc, arith}
+use Rattle.std.proofs.Common.{◌≡◌, ℕ, ◌+◌, ◌<◌, ◌≤◌, nat_eq, List, [], ◌∷◌, ◌++◌, map, count_by, take, length}
+use Rattle.std.proofs.Common.{codes, refl, sym, ◌∙◌, ap, append_assoc, arith}
 use Rattle.std.proofs.lemmas.List.{take_all}
 use Rattle.sp_defs.specs.Text.{distinct, joined_by}
 use Rattle.sp_partition.proofs.Kept.{kept_more}

@@ -12,5 +12,5 @@ unfolding term_text
 written_term notation k c size old between new apart is factor power =
     power ∙ ap (λ xs. xs ++ power_text notation k) (factor ∙ ap (λ n. old ++ factor_text notation n) is)
     ∙ append_assoc old (factor_text notation (unsigned_abs c)) (power_text notation k)
-    ∙ ap (λ b. old ++ cond b (decimal (unsigned_abs c)) (factor_text notation (unsigned_abs c) ++ power_text notation k))
-    (sym apart)
+    ∙ ap (λ b. old ++ cond b (decimal (unsigned_abs c))
+    (factor_text notation (unsigned_abs c) ++ power_text notation k)) (sym apart)

@@ -6,8 +6,8 @@ ghost use Rattle.sp_paint.specs.Page.{page_of, trailer_of};
 use sp_fock::Grid;
 use std::alloc::{AllocError, Global};
 
-/// Writes grids, page after page, and a last line after them. Its state is a name, a form and the number of its pages so
-/// far. The texts go by the form, and the name is free.
+/// Writes grids, page after page, and a last line after them. Its state is a name, a form and the number of its pages
+/// so far. The texts go by the form, and the name is free.
 pub trait Painter: Drop {
     ghost state: { Self → PainterState };
 

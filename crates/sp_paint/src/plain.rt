@@ -1,6 +1,7 @@
 //! The form Plain: lines of words.
 ghost use Rattle.std.specs.Prelude.{◌≡◌, ◌++◌, take, length, flat_map, OnOk, OnErr};
-ghost use Rattle.sp_paint.specs.Page.{plain_cell_text, plain_column_text, plain_head, plain_page, plain_row_text, rows_of};
+ghost use Rattle.sp_paint.specs.Page.{plain_cell_text, plain_column_text, plain_head, plain_page, plain_row_text};
+ghost use Rattle.sp_paint.specs.Page.{rows_of};
 
 use sp_fock::Grid;
 use sp_laurent::Laurent;
