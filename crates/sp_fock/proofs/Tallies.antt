@@ -1,5 +1,6 @@
 -- What the code makes of a tally's totals is what its contracts say, and a tally again.
-use Rattle.std.proofs.Common.{◌≡◌, ℕ, ◌+◌, ◌*◌, ◌^◌, ◌<◌, ◌≤◌, ◌↔◌, true, List, map, nat_lt, sym, ◌∙◌, ap, ap₂, subst, arith}
+use Rattle.std.proofs.Common.{◌≡◌, ℕ, ◌+◌, ◌*◌, ◌^◌, ◌<◌, ◌≤◌, ◌↔◌, true, List, map, nat_lt, sym, ◌∙◌, ap, ap₂, subst}
+use Rattle.std.proofs.Common.{arith}
 use Rattle.std.specs.List.{AllByRecursion}
 use Rattle.sp_defs.specs.Laurent.{Laurent, negate, size}
 use Rattle.sp_defs.specs.Power.{FockVector, IsVector}
@@ -73,5 +74,5 @@ module _ (t : TallyValue) (tally : IsTally t) (a : Laurent) (w : FockVector) (he
             (λ j. (j.at, size j.first + size a * size j.second)) js
             (all_mono (λ j. size j.first + size a * size j.second ≤ limit)
             (λ j. nat_lt 0 (size j.first + size a * size j.second) ≡ true
-              → size j.first + size a * size j.second < 2 ^ 127) js
+            → size j.first + size a * size j.second < 2 ^ 127) js
             (λ j k _. omega arith) fits))

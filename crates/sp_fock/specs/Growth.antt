@@ -1,7 +1,6 @@
 -- Totals and the terms of a vector, walked together.
 use Rattle.std.specs.Prelude.{ℕ, ◌+◌, ◌*◌, cond, List, [], ◌∷◌, map, filter, nat_lt}
-use Rattle.sp_defs.specs.Laurent.{Laurent, size}
-use Rattle.sp_defs.specs.Power.{Entries}
+use Rattle.sp_defs.specs.Laurent.{size}
 use Rattle.sp_fock_law.specs.Joined.{joined, joint, Joint as JointAt}
 use Rattle.sp_fock_law.specs.Tally.{Totals, constant, constants}
 use Rattle.sp_fock.specs.Walk.{shown}

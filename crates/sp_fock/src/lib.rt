@@ -1,4 +1,4 @@
-//! Vectors of the Fock space: finite maps from the partitions of one degree to Laurent polynomials. Vectors with totals,
+//! Vectors of the Fock space: finite maps from the partitions of one degree to Laurent polynomials; vectors with totals,
 //! and tables of polynomials.
 #![tactic(auto)]
 

@@ -70,13 +70,7 @@ impl Tally {
     }
 
     // This without `a` times `w`.
-    fn left(
-        self,
-        alloc: Global,
-        a: &Laurent,
-        w: &Vector,
-        limit: u128,
-    ) -> Result<Tally, FockFault>
+    fn left(self, alloc: Global, a: &Laurent, w: &Vector, limit: u128) -> Result<Tally, FockFault>
         requires one_degree { self.vector.degree ≡ w.now.degree }
         requires least { 1 ≤ limit }
         requires most { limit < 2 ^ 127 }

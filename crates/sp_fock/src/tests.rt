@@ -96,7 +96,10 @@ fn sum_of_terms(
 ) -> Result<Vector, Fail> {
     let mut v = Vector::zero(alloc, degree);
     for (parts, coefficient, power) in terms {
-        assert_eq!(rt; add_term(rt, alloc, &mut v, parts, *coefficient, *power, 9)?, Ok(()));
+        assert_eq!(rt;
+            add_term(rt, alloc, &mut v, parts, *coefficient, *power, 9)?,
+            Ok(())
+        );
     }
     Ok(v)
 }

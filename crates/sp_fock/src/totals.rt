@@ -167,7 +167,11 @@ pub(crate) fn totals_fit(
 }
 
 // Appends a total, unless it is 0.
-fn push_total(totals: &mut Vec<(Partition, u128)>, at: Partition, total: u128) -> Result<(), AllocError>
+fn push_total(
+    totals: &mut Vec<(Partition, u128)>,
+    at: Partition,
+    total: u128,
+) -> Result<(), AllocError>
     ensures { OnOk result (totals.new.items ≡ totals.old.items ++ total_at at total) }
 {
     if total > 0 {

@@ -7,14 +7,15 @@ use Rattle.sp_algebra.proofs.Canonical.{negate_is}
 use Rattle.sp_algebra.proofs.Sizes.{size_plus, size_times, size_negate}
 use Rattle.sp_defs.specs.Laurent.{Laurent, IsLaurent, negate, plus, times, size}
 use Rattle.sp_defs.specs.Partition.{partitions, IsPartitionOf}
-use Rattle.sp_defs.specs.Power.{FockVector, IsVector, vector_of}
+use Rattle.sp_defs.specs.Power.{FockVector, vector_of}
 use Rattle.sp_defs.specs.Within.{ProductWithin}
 use Rattle.sp_lists.proofs.Elements.{all_both, all_map, map_all}
 use Rattle.sp_lists.proofs.Greatest.{greatest_exactly}
 use Rattle.sp_shapes.proofs.Order.{all_mono}
 use Rattle.sp_shapes.proofs.Listing.{all_partitions}
 use Rattle.sp_fock_law.specs.Addition.{plus_scaled, scaled_sum_weight}
-use Rattle.sp_fock_law.specs.Tally.{TallyValue, IsTally, tally_of, subtracted, subtraction_weight, grown_total, total_of}
+use Rattle.sp_fock_law.specs.Tally.{TallyValue, IsTally, tally_of, subtracted, subtraction_weight, grown_total}
+use Rattle.sp_fock_law.specs.Tally.{total_of}
 use Rattle.sp_fock_law.proofs.Totals.{IsTotals-totals, total_of-totals}
 use Rattle.sp_fock_law.proofs.Vectors.{vector_of-entries}
 
@@ -69,10 +70,10 @@ module _ (t : TallyValue) (tally : IsTally t) (a : Laurent) (w : FockVector) whe
       (all_map (λ k. k ≤ limit) sum xs
       (all_mono (λ x. IsPartitionOf t.vector.degree x × (grown_total t a w x ≤ limit)) (λ x. sum x ≤ limit) xs
       (λ x (p, k).
-        let covered : size (vector_of t.vector.entries x) ≤ total_of t.totals x = tally.covers x p in
-        let smaller : size (negate a) * size (vector_of w.entries x) ≤ size a * size (vector_of w.entries x) =
-        times_smaller (vector_of w.entries x) in
-        omega arith)
+      let covered : size (vector_of t.vector.entries x) ≤ total_of t.totals x = tally.covers x p in
+      let smaller : size (negate a) * size (vector_of w.entries x) ≤ size a * size (vector_of w.entries x) =
+      times_smaller (vector_of w.entries x) in
+      omega arith)
       (all_both (IsPartitionOf t.vector.degree) (λ x. grown_total t a w x ≤ limit) xs (all_partitions t.vector.degree)
       (map_all (λ k. k ≤ limit) (grown_total t a w) xs
       ((greatest_exactly limit (map (grown_total t a w) xs)).0 h)))))

@@ -1,39 +1,7 @@
 -- Totals as the entries of constants, so that what is known of vectors is known of totals.
-use Rattle.std.proofs.Common.{
-  ◌≡◌,
-  ◌≢◌,
-  ℕ,
-  zero,
-  suc,
-  ◌+◌,
-  ◌*◌,
-  ◌^◌,
-  ◌<◌,
-  ◌≤◌,
-  ◌↔◌,
-  Bool,
-  true,
-  false,
-  cond,
-  List,
-  [],
-  ◌∷◌,
-  map,
-  filter,
-  length,
-  get_or,
-  pos,
-  nat_lt,
-  refl,
-  sym,
-  ◌∙◌,
-  ap,
-  ap₂,
-  subst,
-  arith,
-  lt-ltb,
-  is_eq,
-}
+use Rattle.std.proofs.Common.{◌≡◌, ◌≢◌, ℕ, zero, suc, ◌+◌, ◌*◌, ◌<◌, ◌≤◌, ◌↔◌, Bool, true, false, cond, List, [], ◌∷◌}
+use Rattle.std.proofs.Common.{map, filter, length, get_or, pos, nat_lt, refl, sym, ◌∙◌, ap, ap₂, subst, arith, lt-ltb}
+use Rattle.std.proofs.Common.{is_eq}
 use Rattle.std.proofs.Math.ListN.{get_or-map}
 use Rattle.std.proofs.lemmas.Int.{ints}
 use Rattle.std.proofs.lemmas.List.{length-map}
@@ -47,7 +15,7 @@ use Rattle.sp_defs.specs.Laurent.{Laurent, IsLaurent, collect, size}
 use Rattle.sp_defs.specs.Power.{Entries, vector_of, entries, IsVector, greatest}
 use Rattle.sp_lists.proofs.Elements.{all_every, all_map, map_all}
 use Rattle.sp_shapes.proofs.Order.{all_mono}
-use Rattle.sp_fock_law.specs.Joined.{Joint, joined, is_nonzero, combined}
+use Rattle.sp_fock_law.specs.Joined.{Joint, joined, is_nonzero}
 use Rattle.sp_fock_law.specs.Tally.{Totals, total_of, totals, IsTotals, constant, constants}
 use Rattle.sp_fock_law.proofs.Vectors.{IsVector-entries, IsLaurent-vector_of, vector_of-entries, entries-alike}
 use Rattle.sp_fock_law.proofs.Vectors.{entries-vector_of}
@@ -95,7 +63,8 @@ map_filter g p q (x ∷ xs) (h, hs) =
           ∙ ap (λ b. cond b (g x ∷ filter q (map g xs)) (filter q (map g xs))) (sym e ∙ h)
     ] refl
 
-pub vector_of-constants : (ts : Totals) (lambda : List ℕ) → vector_of (constants ts) lambda ≡ constant (total_of ts lambda)
+pub vector_of-constants : (ts : Totals) (lambda : List ℕ)
+    → vector_of (constants ts) lambda ≡ constant (total_of ts lambda)
 unfolding vector_of total_of constant
 vector_of-constants [] lambda = refl
 vector_of-constants ((kappa, t) ∷ ts) lambda =

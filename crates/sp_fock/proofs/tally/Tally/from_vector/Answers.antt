@@ -1,4 +1,4 @@
-use Rattle.std.proofs.Common.{◌≡◌, ◌∙◌, ap, map}
+use Rattle.std.proofs.Common.{◌∙◌, ap, map}
 use Rattle.sp_defs.specs.Laurent.{size}
 use Rattle.sp_fock.proofs.Tallies.{sizes_tally, sizes_kept}
 use Rattle.sp_fock.proofs.tally.Tally.from_vector.Goals as goal

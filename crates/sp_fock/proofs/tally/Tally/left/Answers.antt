@@ -41,7 +41,7 @@ returns-in_err-add_scaled-clause-fits c =
     let a = c.args.a.now in
     let w = c.args.w.now in
     let same : scaled_sum_weight c.self.inside.vector c.in_ok-negate.field-0 w
-        ≡ scaled_sum_weight t.vector (negate a) w =
+    ≡ scaled_sum_weight t.vector (negate a) w =
     ap₂ (λ v p. scaled_sum_weight v p w) (ap (λ x. x.vector) c.self.view_is) c.in_ok-negate.ensures in
     let fits : scaled_sum_weight t.vector (negate a) w ≤ c.args.limit =
     smaller_weight t (subst IsTally c.self.view_is c.self.invariant) a w c.args.limit c.requires.fits in

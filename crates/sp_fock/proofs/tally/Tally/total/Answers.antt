@@ -2,7 +2,7 @@ use Rattle.std.proofs.Common.{rules, ◌≡◌, sym, ◌∙◌, ap, subst, Ok, E
 use Rattle.std.specs.List.Sorted.{IsBinarySearchResult}
 use Rattle.std.proofs.lemmas.Fn.{always_returns_same}
 use Rattle.sp_defs.specs.Partition.{order}
-use Rattle.sp_fock_law.specs.Tally.{Totals, IsTally, total_of}
+use Rattle.sp_fock_law.specs.Tally.{Totals, IsTally}
 use Rattle.sp_fock.proofs.Search.{total_found, total_absent}
 use Rattle.sp_fock.proofs.tally.Tally.total.Goals as goal
 
@@ -15,7 +15,8 @@ returns-in-Ok c =
     c.in-Ok.ensures.position (λ t. order t.0 c.args.p.now) (always_returns_same _ _ _ (λ a r g called. search rules)) in
     ap (λ t. t.1) c.index.ensures ∙ ap (λ xs. (get_or xs c.in-Ok.place c.index.result.now).1)
     (sym c.deref.ensures.value)
-    ∙ total_found c.args.self.now tally ts same c.args.p.now c.in-Ok.place c.index.result.now c.in-Ok.ensures.bound found
+    ∙ total_found c.args.self.now tally ts same c.args.p.now c.in-Ok.place c.index.result.now c.in-Ok.ensures.bound
+    found
 
 pub returns-in-Err : goal.returns-in-Err
 returns-in-Err c =
