@@ -1,7 +1,7 @@
 //! The choice of a painter by its name.
 ghost use Rattle.std.specs.Prelude.{◌≡◌, map, position};
 ghost use Rattle.std.specs.Str.{bytes_eq};
-ghost use Rattle.sp_paint.specs.State.{PainterState, name_of};
+ghost use Rattle.sp_paint.specs.State.{name_of};
 
 use crate::Painter;
 

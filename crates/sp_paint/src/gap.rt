@@ -1,7 +1,6 @@
 //! The form Gap: matrices as lists of lists.
-ghost use Rattle.std.specs.Prelude.{◌≡◌, ◌<◌, ◌++◌, cond, nat_eq, [], take, length, map, codes, OnOk, OnErr};
+ghost use Rattle.std.specs.Prelude.{◌≡◌, ◌++◌, cond, nat_eq, [], take, length, map, codes, OnOk, OnErr};
 ghost use Rattle.sp_defs.specs.Text.{joined_by};
-ghost use Rattle.sp_fock_law.specs.Grid.{row_of};
 ghost use Rattle.sp_paint.specs.Notation.{polynomial_text};
 ghost use Rattle.sp_paint.specs.Page.{gap_page, gap_row_text};
 
