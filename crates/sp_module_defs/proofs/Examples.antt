@@ -7,7 +7,8 @@ use Rattle.sp_defs.specs.Laurent.{int_sum, one, power}
 use Rattle.sp_defs.specs.Power.{Entries, vector_of}
 use Rattle.sp_module_defs.specs.Jantzen.{inversions, sorting_sign, descending, term, terms_of_pair, terms_of_bead}
 use Rattle.sp_module_defs.specs.Jantzen.{jantzen_terms, total_at, jantzen_sum}
-use Rattle.sp_module_defs.specs.Agreement.{Cells, jantzen_entries, jantzen_value, jantzen_size, agrees, agreement_weight}
+use Rattle.sp_module_defs.specs.Agreement.{Cells, jantzen_entries, jantzen_value, jantzen_size}
+use Rattle.sp_module_defs.specs.Agreement.{agrees, agreement_weight}
 use Rattle.sp_module_defs.specs.Dims.{factorial, product, specht_dim, composed_dim, dim_weight}
 
 -- -[3] + [2,1]

@@ -1,8 +1,9 @@
 -- Jantzen sums, by moving beads on the abacus.
 -- James and Mathas, 1997: A q-analogue of the Jantzen-Schaper theorem; Mathas, Iwahori-Hecke Algebras and Schur
 -- Algebras of the Symmetric Group, ch. 5.
-use Rattle.std.specs.Prelude.{ℕ, ◌+◌, ◌-◌, ◌%◌, Bool, true, cond, ◌&&◌, not, nat_eq, nat_lt, List, [], ◌∷◌, map, reverse}
-use Rattle.std.specs.Prelude.{length, filter, count_by, sum, flat_map, slice_index, slice_set, ℤ, pos, negsuc, ◌-ℤ◌, ◌*ℤ◌}
+use Rattle.std.specs.Prelude.{ℕ, ◌+◌, ◌-◌, ◌%◌, Bool, true, cond, ◌&&◌, not, nat_eq, nat_lt, List, [], ◌∷◌, map}
+use Rattle.std.specs.Prelude.{reverse, length, filter, count_by, sum, flat_map, slice_index, slice_set}
+use Rattle.std.specs.Prelude.{ℤ, pos, negsuc, ◌-ℤ◌, ◌*ℤ◌}
 use Rattle.std.specs.List.{list_any, range_with_len}
 use Rattle.std.specs.Ordering.{is_eq, int_eq}
 use Rattle.sp_defs.specs.Partition.{compare, from_one_to}
