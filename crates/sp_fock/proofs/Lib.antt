@@ -1,2 +1,4 @@
 mod Search
 mod Adding
+mod Growing
+mod Tallies

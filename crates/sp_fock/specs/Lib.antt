@@ -4,3 +4,5 @@ pub mod Walk
 pub mod Fault
 pub mod Sum
 pub mod Print
+pub mod Growth
+pub mod Cells

@@ -1,14 +1,20 @@
-//! Vectors of the Fock space: finite maps from the partitions of one degree to Laurent polynomials.
+//! Vectors of the Fock space: finite maps from the partitions of one degree to Laurent polynomials; vectors with totals,
+//! and tables of polynomials.
 #![tactic(auto)]
 
 mod fault;
+mod grid;
 mod joined;
 mod sums;
+mod tally;
 mod terms;
 mod text;
+mod totals;
 mod vector;
 
 pub use fault::FockFault;
+pub use grid::Grid;
+pub use tally::Tally;
 pub use terms::Terms;
 pub use vector::Vector;
 

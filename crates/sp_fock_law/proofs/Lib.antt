@@ -4,3 +4,5 @@ pub mod Places
 pub mod Single
 pub mod Steps
 pub mod JoinedAll
+pub mod Totals
+pub mod Tally

@@ -33,7 +33,7 @@ use Rattle.std.proofs.Common.{
 use Rattle.std.specs.Cmp.{IsTotalOrder}
 use Rattle.std.specs.Ordering.{ordering_reverse}
 use Rattle.std.specs.Result.{MatchResult}
-use Rattle.std.specs.List.Sorted.{IsSearchInRange, IsBinarySearchResult, IsPartitionPoint}
+use Rattle.std.specs.List.Sorted.{IsBinarySearchResult, IsPartitionPoint}
 use Rattle.std.proofs.lemmas.Bool.{cases_lt}
 use Rattle.std.proofs.lemmas.Cmp.{tied_itself}
 use Rattle.std.proofs.lemmas.List.Sorted.{searchable_from_sorted}
@@ -43,18 +43,14 @@ use Rattle.sp_defs.specs.Power.{Entries, vector_of}
 use Rattle.sp_shapes.proofs.Order.{same_lists}
 use Rattle.sp_fock_law.proofs.Vectors.{AllLater, IsAscending, later_tail, vector_of-head, vector_of-other}
 
--- the entry that a look-up past the end answers
-abbrev Entry : Type 0
-Entry = List ℕ × Laurent
-
-later_at : (kappa : List ℕ) (es : Entries) → AllLater kappa es → (i : ℕ) (d : Entry) → i < length es
-    → IsEarlier kappa (get_or es i d).0
+later_at : {X : Type 0} (kappa : List ℕ) (es : List (List ℕ × X)) → AllLater kappa es → (i : ℕ) (d : List ℕ × X)
+    → i < length es → IsEarlier kappa (get_or es i d).0
 later_at kappa [] h i d lt = absurd (omega arith)
 later_at kappa (e ∷ es) (h, hs) zero d lt = h
 later_at kappa (e ∷ es) (h, hs) (suc i) d lt = later_at kappa es hs i d (omega arith)
 
-pub places_ascend : (es : Entries) → IsAscending es → (i j : ℕ) (d : Entry) → i < j → j < length es
-    → IsEarlier (get_or es i d).0 (get_or es j d).0
+pub places_ascend : {X : Type 0} (es : List (List ℕ × X)) → IsAscending es → (i j : ℕ) (d : List ℕ × X) → i < j
+    → j < length es → IsEarlier (get_or es i d).0 (get_or es j d).0
 places_ascend [] h i j d lt within = absurd (omega arith)
 places_ascend ((kappa, p) ∷ es) h zero zero d lt within = absurd (omega arith)
 places_ascend ((kappa, p) ∷ es) h (suc i) zero d lt within = absurd (omega arith)
@@ -64,7 +60,7 @@ places_ascend ((kappa, p) ∷ es) (h, hs) (suc i) (suc j) d lt within =
     places_ascend es hs i j d (omega arith) (omega arith)
 
 -- at the partition of an entry the vector has its polynomial
-pub vector_of-at : (es : Entries) → IsAscending es → (i : ℕ) (d : Entry) → i < length es
+pub vector_of-at : (es : Entries) → IsAscending es → (i : ℕ) (d : List ℕ × Laurent) → i < length es
     → vector_of es (get_or es i d).0 ≡ (get_or es i d).1
 vector_of-at [] h i d lt = absurd (omega arith)
 vector_of-at ((kappa, p) ∷ es) h zero d lt = vector_of-head kappa p es
@@ -73,7 +69,7 @@ vector_of-at ((kappa, p) ∷ es) h (suc i) d lt =
     (ap is_eq (later_at kappa es (later_tail kappa p es h) i d (omega arith)))
     ∙ vector_of-at es h.1 i d (omega arith)
 
-pub vector_of-absent : (es : Entries) (lambda : List ℕ) (d : Entry)
+pub vector_of-absent : (es : Entries) (lambda : List ℕ) (d : List ℕ × Laurent)
     → ((i : ℕ) → i < length es → is_eq (compare (get_or es i d).0 lambda) ≡ false) → vector_of es lambda ≡ []
 unfolding vector_of
 vector_of-absent [] lambda d none = refl
@@ -88,25 +84,22 @@ apart R total x y ne = elim (compare x y) as (λ o. compare x y ≡ o → is_eq 
   | Greater ↦ λ _. refl
 ] refl
 
--- a search by halves, in any order by which the entries ascend
-pub searched : (R : List ℕ → List ℕ → Ordering) → IsTotalOrder R → (es : Entries) → IsAscending es
-    → ((i j : ℕ) (d : Entry) → i < j → j < length es → R (get_or es i d).0 (get_or es j d).0 ≡ Less)
+-- A search by halves, in any order by which the partitions ascend, finds the place of a partition, or that it has none.
+pub searched : {X : Type 0} (R : List ℕ → List ℕ → Ordering) → IsTotalOrder R → (es : List (List ℕ × X))
+    → ((i j : ℕ) (d : List ℕ × X) → i < j → j < length es → R (get_or es i d).0 (get_or es j d).0 ≡ Less)
     → ((x y : List ℕ) → R x y ≡ Equal → x ≡ y)
-    → (lambda : List ℕ) (r : Result ℕ ℕ) → IsSearchInRange r (length es) → IsBinarySearchResult (λ t. R t.0 lambda) es r
-    → MatchResult r (λ i. (d : Entry) → vector_of es lambda ≡ (get_or es i d).1) (λ _. vector_of es lambda ≡ [])
-searched R total es up rises same lambda (Ok i) in_range found = λ d.
-    ap (vector_of es) (sym (same (get_or es i d).0 lambda (found d))) ∙ vector_of-at es up i d in_range
-searched R total es up rises same lambda (Err i) in_range parted = vector_of-absent es lambda d (λ k lt.
+    → (lambda : List ℕ) (r : Result ℕ ℕ) → IsBinarySearchResult (λ t. R t.0 lambda) es r
+    → MatchResult r (λ i. (d : List ℕ × X) → (get_or es i d).0 ≡ lambda)
+    (λ _. (d : List ℕ × X) (k : ℕ) → k < length es → is_eq (compare (get_or es k d).0 lambda) ≡ false)
+searched R total es rises same lambda (Ok i) found = λ d. same (get_or es i d).0 lambda (found d)
+searched R total es rises same lambda (Err i) parted = λ d k lt.
     elim (cases_lt k i) [
       | inl before ↦ apart R total (get_or es k d).0 lambda
           (λ e. let z : Equal ≡ Less = sym e ∙ split.0 k d (omega arith) before in cc)
       | inr after ↦ apart R total (get_or es k d).0 lambda
           (λ e. let z : Equal ≡ Greater = sym e ∙ split.1 k d after lt in cc)
-    ])
+    ]
   where
-    d : Entry
-    d = ([], [])
-
     split : IsPartitionPoint (λ t. R t.0 lambda ≡ Less) (λ t. R t.0 lambda ≡ Greater) es i
     split = parted (searchable_from_sorted total (λ t. t.0) es lambda
         (λ k e low within. ap is_lt

@@ -1,5 +1,5 @@
 -- The vector 0, and vectors with a single entry.
-use Rattle.std.proofs.Common.{◌≡◌, ◌≢◌, ℕ, cond, List, [], ◌∷◌, sym, refl, subst, arith, ◌≤◌, ◌+ℤ◌}
+use Rattle.std.proofs.Common.{◌≡◌, ◌≢◌, ℕ, cond, List, [], ◌∷◌, sym, refl, subst, arith, ◌≤◌, ◌+ℤ◌, pos}
 use Rattle.std.proofs.lemmas.Int.{ints}
 use Rattle.std.specs.Int.RustNames.{unsigned_abs}
 use Rattle.std.specs.List.{AllByRecursion}
@@ -44,3 +44,10 @@ unit_within d a kappa h within =
           (λ s k. (omega (arith, ints), tt)) within,
       tt,
     )
+
+-- A product with 1 has the powers of the other factor.
+pub one_within : (d : ℕ) (q : Laurent) → PowersWithin d q → ProductWithin d one q
+one_within d q within =
+    let sums : AllByRecursion (λ t. unsigned_abs (pos 0 +ℤ t.0) ≤ d) q =
+    all_mono (λ t. unsigned_abs t.0 ≤ d) (λ t. unsigned_abs (pos 0 +ℤ t.0) ≤ d) q (λ t k. omega (arith, ints)) within in
+    (sums, tt)

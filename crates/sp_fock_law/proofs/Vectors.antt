@@ -42,13 +42,14 @@ use Rattle.sp_shapes.proofs.Listing.{Occurs, all_partitions, each_partition, par
 use Rattle.sp_fock_law.specs.Joined.{is_nonzero}
 
 -- Every entry is later than the partition.
-abbrev pub AllLater : List ℕ → Entries → Type 0
+abbrev pub AllLater : {X : Type 0} → List ℕ → List (List ℕ × X) → Type 0
 AllLater kappa es = AllByRecursion (λ t. IsEarlier kappa t.0) es
 
-abbrev pub IsAscending : Entries → Type 0
+abbrev pub IsAscending : {X : Type 0} → List (List ℕ × X) → Type 0
 IsAscending es = Ascending (map (λ t. t.0) es)
 
-pub later_tail : (kappa : List ℕ) (p : Laurent) (es : Entries) → IsAscending ((kappa, p) ∷ es) → AllLater kappa es
+pub later_tail : {X : Type 0} (kappa : List ℕ) (p : X) (es : List (List ℕ × X)) → IsAscending ((kappa, p) ∷ es)
+    → AllLater kappa es
 later_tail kappa p es h = map_all (IsEarlier kappa) (λ t. t.0) es h.0
 
 pub all_later : (mu kappa : List ℕ) (es : Entries) → IsEarlier mu kappa → AllLater kappa es → AllLater mu es

@@ -1,2 +1,4 @@
 pub mod Joined
 pub mod Addition
+pub mod Tally
+pub mod Grid
