@@ -29,7 +29,8 @@ term-nought e xs a b h z =
     let after = moved xs a b h in
     let one : List (List ℕ × ℤ) =
     (shown (descending after), sorting_sign after *ℤ step_value e xs a b h) ∷ [] in
-    ap (λ v. cond (is_distinct after && not (int_eq v (pos 0))) one []) z ∙ ap (λ v. cond v one []) (and_false (is_distinct after))
+    ap (λ v. cond (is_distinct after && not (int_eq v (pos 0))) one []) z
+    ∙ ap (λ v. cond v one []) (and_false (is_distinct after))
 
 pub term-meets : (e : ℕ) (xs : List ℕ) (a b h : ℕ) → is_distinct (moved xs a b h) ≡ false → term e xs a b h ≡ []
 unfolding term

@@ -1,5 +1,6 @@
 -- The vector of the totals, with one term more.
-use Rattle.std.proofs.Common.{◌≡◌, ℕ, suc, ◌+◌, ◌*◌, ◌≤◌, Bool, true, false, cond, List, [], ◌∷◌, ◌++◌, map, filter, length}
+use Rattle.std.proofs.Common.{◌≡◌, ℕ, suc, ◌+◌, ◌*◌, ◌≤◌, Bool, true, false, cond, List, [], ◌∷◌, ◌++◌, map, filter}
+use Rattle.std.proofs.Common.{length}
 use Rattle.std.proofs.Common.{refl, sym, ◌∙◌, ap, ap₂, arith, ℤ, pos, ◌+ℤ◌, mul-le-mul, take, get_or, ◌<◌, ◌^◌}
 use Rattle.std.proofs.Common.{length-take}
 use Rattle.std.proofs.lemmas.List.{take_more}
@@ -78,7 +79,8 @@ plus_constants c d =
     same_laurent (plus (monomial (pos 0) c) (monomial (pos 0) d)) (monomial (pos 0) (c +ℤ d))
     (IsLaurent-plus (monomial (pos 0) c) (monomial (pos 0) d)) (laurent_constant (c +ℤ d))
     (λ j. coefficient-plus (monomial (pos 0) c) (monomial (pos 0) d) j
-    ∙ settle (at (pos 0) c j) (at (pos 0) d j) (coefficient-put (pos 0) c [] j) (coefficient-put (pos 0) d [] j) (coefficient-put (pos 0) (c +ℤ d) [] j)
+    ∙ settle (at (pos 0) c j) (at (pos 0) d j) (coefficient-put (pos 0) c [] j) (coefficient-put (pos 0) d [] j)
+    (coefficient-put (pos 0) (c +ℤ d) [] j)
     (at-plus (pos 0) c d j))
   where
     settle : {x y z s : ℤ} (a b : ℤ) → x ≡ a +ℤ pos 0 → y ≡ b +ℤ pos 0 → z ≡ s +ℤ pos 0 → s ≡ a +ℤ b → x +ℤ y ≡ z

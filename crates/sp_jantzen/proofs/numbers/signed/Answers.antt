@@ -12,5 +12,6 @@ returns-then-inversions-eq0 c =
 
 pub returns-else-inversions-eq0 : goal.returns-else-inversions-eq0
 returns-else-inversions-eq0 c =
-    let odd : inversions c.args.numbers.now % 2 ≢ 0 = λ e. c.if-inversions-eq0.false (ap (λ n. n % 2) c.inversions.ensures ∙ e) in
+    let odd : inversions c.args.numbers.now % 2 ≢ 0 =
+    λ e. c.if-inversions-eq0.false (ap (λ n. n % 2) c.inversions.ensures ∙ e) in
     omega (arith, ints, sign_odd c.args.numbers.now c.args.value odd)

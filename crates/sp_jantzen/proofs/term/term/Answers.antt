@@ -62,7 +62,8 @@ returns c =
     ∙ ap descending (c.as_slice-2.ensures.value ∙ c.moved-after.ensures)) in
     let same : to_z w8 (of_z w8 c.step_value-value.result) ≡ c.step_value-value.result = omega (arith, ints) in
     let value : c.signed.result ≡
-    sorting_sign (moved xs c.args.to c.args.from c.args.steps) *ℤ step_value c.args.e xs c.args.to c.args.from c.args.steps =
+    sorting_sign (moved xs c.args.to c.args.from c.args.steps) *ℤ
+    step_value c.args.e xs c.args.to c.args.from c.args.steps =
     c.signed.ensures
     ∙ ap₂ (λ ys v. sorting_sign ys *ℤ v) (c.as_slice-4.ensures.value ∙ c.moved-after.ensures)
     (same ∙ c.step_value-value.ensures.value) in
