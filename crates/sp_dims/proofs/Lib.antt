@@ -1,0 +1,3 @@
+pub mod Factorials
+pub mod Solving
+pub mod Rows
