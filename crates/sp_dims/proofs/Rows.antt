@@ -1,9 +1,9 @@
 -- The cells of a grid along one line, and the sums over them.
 use Rattle.std.proofs.Common.{◌≡◌, ◌≢◌, ℕ, zero, suc, ◌+◌, ◌*◌, ◌<◌, ◌≤◌, Bool, true, false, cond, not, nat_eq, List, []}
 use Rattle.std.proofs.Common.{◌∷◌, ◌++◌, map, length, reverse, refl, sym, ◌∙◌, ap, ap₂, subst, arith, sum_by, ℤ, pos}
-use Rattle.std.proofs.Common.{◌+ℤ◌, ◌-ℤ◌, ◌*ℤ◌, get_or, ◌⊎◌, inl, inr}
+use Rattle.std.proofs.Common.{◌+ℤ◌, ◌-ℤ◌, ◌*ℤ◌, get_or, ◌⊎◌, inl, inr, Option, Some, None, lt-ltb}
 use Rattle.std.specs.Int.RustNames.{unsigned_abs}
-use Rattle.std.specs.List.{AllByRecursion, zip}
+use Rattle.std.specs.List.{AllByRecursion, zip, position}
 use Rattle.std.specs.Cmp.Lexicographic.{pointwise}
 use Rattle.std.specs.declared.cmp.Ordering.TheVariants.{Less, Equal, Greater}
 use Rattle.std.proofs.lemmas.Bool.{cases_eq}
@@ -148,3 +148,9 @@ weight_by_row g lambda xs h lt =
     ∙ ap (sum_by (λ t. unsigned_abs t.0 * unsigned_abs t.1)) (products-zip (cell_at g) lambda g.columns xs)
     ∙ sum-map (λ t. unsigned_abs t.0 * unsigned_abs t.1) (λ t. (value_at_one (cell_at g lambda t.0), t.1))
     (zip g.columns xs))
+
+-- What a search along the lines finds.
+pub found_place : (xs : List (List ℕ)) (x : List ℕ) → place xs x < length xs →
+    position (λ y. pointwise nat_eq y x) xs ≡ Some (place xs x)
+unfolding place
+found_place xs x lt = ap (λ b. cond b (Some (place xs x)) None) (lt-ltb (place xs x) (length xs) lt)

@@ -10,7 +10,8 @@ use Rattle.std.proofs.lemmas.Int.{ints}
 use Rattle.sp_defs.specs.Partition.{compare, IsEarlier}
 use Rattle.sp_defs.specs.Laurent.{one, int_sum, value_at_one}
 use Rattle.sp_lists.proofs.Elements.{filter_append, all_append}
-use Rattle.sp_shapes.proofs.Order.{equal_self, earlier_than}
+use Rattle.sp_shapes.proofs.Order.{equal_self}
+use Rattle.sp_fock_law.proofs.Vectors.{earlier_than}
 use Rattle.sp_module_defs.specs.Agreement.{Cells}
 use Rattle.sp_module_defs.specs.Dims.{Dims, composed_dim, specht_dim, dim_weight, IsSimpleDims}
 use Rattle.sp_dims.specs.Equation.{next_dim, known_weight}
