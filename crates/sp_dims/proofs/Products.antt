@@ -1,6 +1,6 @@
 -- The sum of the products along a row, one product at a time.
 use Rattle.std.proofs.Common.{◌≡◌, ℕ, zero, suc, ◌+◌, ◌-◌, ◌*◌, ◌^◌, ◌<◌, ◌≤◌, List, [], ◌∷◌, map, take, length, get_or}
-use Rattle.std.proofs.Common.{refl, sym, ◌∙◌, ap, ap₂, subst, arith, sum_by, ℤ, pos, ◌+ℤ◌, ◌-ℤ◌, ◌*ℤ◌, SFits}
+use Rattle.std.proofs.Common.{refl, sym, ◌∙◌, ap, ap₂, subst, arith, ℤ, pos, ◌+ℤ◌, ◌-ℤ◌, ◌*ℤ◌, SFits}
 use Rattle.std.proofs.Common.{to_z, of_z}
 use Rattle.std.specs.Int.{w128}
 use Rattle.std.specs.Int.RustNames.{unsigned_abs}
@@ -101,7 +101,8 @@ module _
     product_small : SFits w128 (m *ℤ x)
     product_small = small_fits (m *ℤ x) (omega (arith, unsigned_abs-mul m x))
 
-    pub whole_next : number + products_weight cells (take (i + 1) known) + (room - unsigned_abs m * unsigned_abs x) ≡ limit
+    pub whole_next :
+        number + products_weight cells (take (i + 1) known) + (room - unsigned_abs m * unsigned_abs x) ≡ limit
     whole_next = omega (arith, weight_next)
 
     pub read_next : dim -ℤ to_z w128 (of_z w128 (to_z w128 (of_z w128 m) *ℤ to_z w128 (of_z w128 x))) ≡

@@ -1,12 +1,12 @@
 -- The cells of a grid along one line, and the sums over them.
-use Rattle.std.proofs.Common.{◌≡◌, ◌≢◌, ℕ, zero, suc, ◌+◌, ◌*◌, ◌<◌, ◌≤◌, Bool, true, false, cond, not, nat_eq, List, []}
+use Rattle.std.proofs.Common.{◌≡◌, ℕ, zero, suc, ◌+◌, ◌*◌, ◌<◌, ◌≤◌, Bool, true, false, cond, not}
+use Rattle.std.proofs.Common.{nat_eq, List, []}
 use Rattle.std.proofs.Common.{◌∷◌, ◌++◌, map, length, reverse, refl, sym, ◌∙◌, ap, ap₂, subst, arith, sum_by, ℤ, pos}
-use Rattle.std.proofs.Common.{◌+ℤ◌, ◌-ℤ◌, ◌*ℤ◌, get_or, ◌⊎◌, inl, inr, Option, Some, None, lt-ltb}
+use Rattle.std.proofs.Common.{◌+ℤ◌, ◌-ℤ◌, ◌*ℤ◌, get_or, ◌⊎◌, inl, inr, Some, None, lt-ltb}
 use Rattle.std.specs.Int.RustNames.{unsigned_abs}
 use Rattle.std.specs.List.{AllByRecursion, zip, position}
 use Rattle.std.specs.Cmp.Lexicographic.{pointwise}
-use Rattle.std.specs.declared.cmp.Ordering.TheVariants.{Less, Equal, Greater}
-use Rattle.std.proofs.lemmas.Bool.{cases_eq}
+use Rattle.std.specs.declared.cmp.Ordering.TheVariants.{Equal, Greater}
 use mathlib.Core.List.{reverse-cons}
 use Rattle.sp_defs.specs.Partition.{compare, Ascending, IsEarlier}
 use Rattle.sp_defs.specs.Laurent.{Laurent, one, int_sum, value_at_one, slope_at_one}
@@ -24,7 +24,8 @@ use Rattle.sp_dims.proofs.Solving.{Descends}
 
 -- ---- columns that descend
 
-last_of : (ys : List (List ℕ)) (x : List ℕ) → Ascending (ys ++ x ∷ []) → AllByRecursion (λ y. IsEarlier y x) ys × Ascending ys
+last_of : (ys : List (List ℕ)) (x : List ℕ) → Ascending (ys ++ x ∷ []) →
+    AllByRecursion (λ y. IsEarlier y x) ys × Ascending ys
 last_of [] x h = (tt, tt)
 last_of (y ∷ ys) x (h, hs) =
     let rest = last_of ys x hs in
@@ -53,7 +54,8 @@ place-head x xs = ap (λ b. cond (not b) (1 + place xs x) 0) (lists_equal x x re
 
 place-later : (x mu : List ℕ) (xs : List (List ℕ)) → compare x mu ≡ Greater → place (x ∷ xs) mu ≡ suc (place xs mu)
 unfolding place
-place-later x mu xs h = ap (λ b. cond (not b) (1 + place xs mu) 0) (differ (pointwise nat_eq x mu) refl) ∙ next (place xs mu)
+place-later x mu xs h =
+    ap (λ b. cond (not b) (1 + place xs mu) 0) (differ (pointwise nat_eq x mu) refl) ∙ next (place xs mu)
   where
     next : (n : ℕ) → 1 + n ≡ suc n
     next n = omega arith

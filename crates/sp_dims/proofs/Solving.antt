@@ -1,19 +1,20 @@
 -- Down the columns: each dimension from those before it. That is the only solution.
-use Rattle.std.proofs.Common.{◌≡◌, ◌≢◌, ℕ, suc, ◌+◌, ◌*◌, Bool, true, false, cond, List, [], ◌∷◌, ◌++◌, map, filter, length}
+use Rattle.std.proofs.Common.{◌≡◌, ℕ, suc, ◌+◌, ◌*◌, cond, List, [], ◌∷◌, ◌++◌}
+use Rattle.std.proofs.Common.{filter, length}
 use Rattle.std.proofs.Common.{refl, sym, ◌∙◌, ap, ap₂, subst, arith, sum_by, nat_lt, ℤ, pos, ◌+ℤ◌, ◌-ℤ◌, ◌*ℤ◌, find}
 use Rattle.std.proofs.Common.{Option, Some, None, append_assoc, append-nil}
 use Rattle.std.specs.Int.RustNames.{unsigned_abs}
 use Rattle.std.specs.List.{AllByRecursion, zip}
 use Rattle.std.specs.Ordering.{is_gt}
-use Rattle.std.specs.declared.cmp.Ordering.TheVariants.{Less, Equal, Greater}
+use Rattle.std.specs.declared.cmp.Ordering.TheVariants.{Greater}
 use Rattle.std.proofs.lemmas.Int.{ints}
-use Rattle.sp_defs.specs.Partition.{compare, IsEarlier}
+use Rattle.sp_defs.specs.Partition.{compare}
 use Rattle.sp_defs.specs.Laurent.{one, int_sum, value_at_one}
 use Rattle.sp_lists.proofs.Elements.{filter_append, all_append}
 use Rattle.sp_shapes.proofs.Order.{equal_self}
 use Rattle.sp_fock_law.proofs.Vectors.{earlier_than}
 use Rattle.sp_module_defs.specs.Agreement.{Cells}
-use Rattle.sp_module_defs.specs.Dims.{Dims, composed_dim, specht_dim, dim_weight, IsSimpleDims}
+use Rattle.sp_module_defs.specs.Dims.{Dims, composed_dim, specht_dim, dim_weight}
 use Rattle.sp_dims.specs.Equation.{next_dim, known_weight}
 use Rattle.sp_dims.specs.Solution.{IsUnitriangular, IsSolution, first_past}
 

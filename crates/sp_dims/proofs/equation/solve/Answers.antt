@@ -1,5 +1,5 @@
-use Rattle.std.proofs.Common.{◌≡◌, ◌+◌, ◌-◌, ◌*◌, ◌<◌, ◌≤◌, get_or, refl, sym, ◌∙◌, ap, ap₂, subst, pos, arith, rules}
-use Rattle.std.proofs.Common.{SFits, to_z, of_z, to_z-of_z, ◌-ℤ◌, take}
+use Rattle.std.proofs.Common.{◌≡◌, ◌+◌, ◌-◌, ◌*◌, ◌<◌, ◌≤◌, get_or, refl, ◌∙◌, ap, ap₂, subst, pos, arith, rules}
+use Rattle.std.proofs.Common.{SFits, to_z, to_z-of_z, take}
 use Rattle.sp_dims.specs.Equation.{products_weight}
 use Rattle.std.proofs.lemmas.Int.{ints}
 use Rattle.std.specs.Int.{w128}
@@ -75,7 +75,8 @@ loop-place-preserved c =
           (to_z w128 c.loop-place.dim-bits) c.args.number c.loop-place.room c.args.limit c.loop-place.invariant.is
           c.loop-place.invariant.whole c.requires.most light m_fits x_fits;
       whole =
-          ap (λ r. c.args.number + products_weight c.args.cells.now (take (c.loop-place.place + 1) c.args.known.now) + r)
+          ap
+          (λ r. c.args.number + products_weight c.args.cells.now (take (c.loop-place.place + 1) c.args.known.now) + r)
           (c.in-Some.ensures.1 ∙ ap₂ (λ a b. c.loop-place.room - a * b) one two)
           ∙ whole_next c.args.cells.now c.args.known.now c.loop-place.place c.index-cells-place.result m
           c.loop-place-test.true c.requires.width c.index-cells-place.is c.at_one-multiplicity.ensures

@@ -1,7 +1,8 @@
-use Rattle.std.proofs.Common.{◌≡◌, ◌<◌, ◌≤◌, ◌++◌, ◌∷◌, [], length, get_or, refl, sym, ◌∙◌, ap, subst, arith, List, ℕ, ℤ}
+use Rattle.std.proofs.Common.{◌≡◌, ◌<◌, ◌≤◌, ◌++◌, ◌∷◌, [], length, get_or, refl, sym, ◌∙◌, ap, subst}
+use Rattle.std.proofs.Common.{List, ℕ}
 use Rattle.std.proofs.Common.{◌⊎◌, inl, inr, true, false, ◌+◌, drop, length-append, rules, SFits, to_z-of_z}
 use Rattle.std.specs.Int.{w128}
-use Rattle.std.specs.List.{zip, AllByRecursion}
+use Rattle.std.specs.List.{zip}
 use Rattle.sp_defs.specs.Laurent.{one}
 use Rattle.sp_lists.proofs.Elements.{le_or_lt}
 use Rattle.sp_lists.proofs.Places.{all_at}
@@ -130,7 +131,8 @@ returns-clause-dims c =
     let d = cell_at g in
     let xs = c.loop-column.dims.items in
     let past_all : length g.columns ≤ c.loop-column.column-index =
-    subst (λ ys. length ys ≤ c.loop-column.column-index) c.columns-column-items.ensures.value c.loop-column-test.false in
+    subst (λ ys. length ys ≤ c.loop-column.column-index) c.columns-column-items.ensures.value
+    c.loop-column-test.false in
     let is : xs ≡ solved d [] g.columns =
     solved_done d g.columns xs (solved d [] g.columns) c.loop-column.column-index past_all c.loop-column.invariant.is in
     record {

@@ -1,4 +1,4 @@
-use Rattle.std.proofs.Common.{◌≡◌, ◌*◌, ◌-◌, ◌+◌, refl, sym, ◌∙◌, ap, ap₂, arith}
+use Rattle.std.proofs.Common.{◌≡◌, ◌*◌, ◌-◌, ◌+◌, refl, ◌∙◌, ap₂, arith}
 use Rattle.sp_module_defs.specs.Dims.{factorial}
 use Rattle.sp_dims.proofs.Factorials.{factorial-small, factorial-next}
 use Rattle.sp_dims.proofs.specht.factorial.Goals as goal

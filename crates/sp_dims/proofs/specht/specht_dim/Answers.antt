@@ -1,9 +1,8 @@
 use Rattle.std.proofs.Common.{◌≡◌, ◌/◌, true, map, sym, ◌∙◌, ap, ap₂, subst}
 use Rattle.std.specs.List.{AllByRecursion}
-use Rattle.sp_defs.specs.Node.{nodes, hook, in_diagram}
+use Rattle.sp_defs.specs.Node.{hook, in_diagram}
 use Rattle.sp_lists.proofs.Elements.{map_all}
 use Rattle.sp_nodes.specs.Nodes.{pair}
-use Rattle.sp_nodes.specs.declared.node.Node.{Node}
 use Rattle.sp_module_defs.specs.Dims.{specht_dim, product, factorial}
 use Rattle.sp_dims.proofs.Factorials.{nodes_inside, map_twice}
 use Rattle.sp_dims.proofs.specht.specht_dim.Goals as goal

@@ -1,8 +1,7 @@
-use Rattle.std.proofs.Common.{◌≡◌, ◌/◌, get_or, map, take, ◌∙◌, ap, ap₂, arith}
+use Rattle.std.proofs.Common.{◌/◌, ◌∙◌, ap₂}
 use Rattle.sp_defs.specs.Node.{hook}
 use Rattle.sp_nodes.specs.Nodes.{pair}
 use Rattle.sp_nodes.specs.declared.node.Node.{Node}
-use Rattle.sp_module_defs.specs.Dims.{product}
 use Rattle.sp_dims.proofs.Factorials.{nothing-divided, divided-next}
 use Rattle.sp_dims.proofs.specht.without_hooks.Goals as goal
 
