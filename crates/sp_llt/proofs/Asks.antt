@@ -1,8 +1,8 @@
 -- What a builder asks for.
-use Rattle.std.proofs.Common.{◌≡◌, ◌≢◌, ℕ, suc, ◌+◌, ◌<◌, ◌≤◌, Bool, true, false, cond, List, [], length, get_or, refl, sym, ◌∙◌}
-use Rattle.std.proofs.Common.{ap, subst, arith, Option, Some, None, IfSome, MatchOption, nat_lt, lt-ltb, le-ltb}
+use Rattle.std.proofs.Common.{◌≡◌, ◌≢◌, ℕ, ◌+◌, ◌<◌, ◌≤◌, true, false, cond, List, [], length, get_or, sym, ◌∙◌}
+use Rattle.std.proofs.Common.{ap, subst, arith, Option, Some, None, IfSome, MatchOption, lt-ltb, le-ltb}
 use Rattle.std.specs.Option.{option_map}
-use Rattle.sp_defs.specs.Partition.{degree, regulars, IsPartitionOf}
+use Rattle.sp_defs.specs.Partition.{degree, regulars}
 use Rattle.sp_defs.specs.Laurent.{lift, size}
 use Rattle.sp_defs.specs.Power.{FockVector, vector_of, entries}
 use Rattle.sp_defs.specs.Row.{outcome, TooLarge, earlier}
@@ -16,11 +16,11 @@ use Rattle.sp_outcome_law.proofs.Next.{IsNext, is_next}
 use Rattle.sp_outcome_law.proofs.Ranks.{earlier_at}
 use Rattle.sp_core.specs.declared.piece.Key.{Key}
 use Rattle.sp_llt.specs.declared.share.Share.{Share}
-use Rattle.sp_llt.specs.Place.{IsPlace, place, Progress, IsProgress, progress, label, labels}
+use Rattle.sp_llt.specs.Place.{IsPlace, place, IsProgress, progress, label, labels}
 use Rattle.sp_llt.specs.Search.{lift_at, NoLift, IsLastLift, IsLargeLift}
 use Rattle.sp_llt.specs.Shares.{given_shares}
 use Rattle.sp_llt.specs.Reached.{IsNext as IsNextShare, IsWithin, IsOpen, tally_at}
-use Rattle.sp_llt.proofs.Labels.{LabelFacts, label_facts, lower_place, by_degree}
+use Rattle.sp_llt.proofs.Labels.{LabelFacts, label_facts, by_degree}
 
 pub asked_past : (e limit : ℕ) (mu : List ℕ) (t : ℕ) → is_past e limit mu t ≡ true → asked e limit mu t ≡ None
 unfolding asked

@@ -1,13 +1,12 @@
 -- What a builder has found once no row is to come.
-use Rattle.std.proofs.Common.{◌≡◌, ◌≢◌, ℕ, ◌<◌, ◌≤◌, true, false, List, [], map, reverse, refl, sym, ◌∙◌, ap, subst, Option, Some, None, ℤ}
+use Rattle.std.proofs.Common.{◌≡◌, ℕ, List, map, reverse, sym, ◌∙◌, ap, Option, None, ℤ}
 use Rattle.std.specs.List.{find}
 use Rattle.std.specs.Option.{option_map}
-use Rattle.sp_defs.specs.Partition.{IsPartitionOf}
-use Rattle.sp_defs.specs.Power.{FockVector, fock_vector, entries}
-use Rattle.sp_defs.specs.Row.{regular_row, outcome}
+use Rattle.sp_defs.specs.Power.{FockVector, fock_vector}
+use Rattle.sp_defs.specs.Row.{regular_row}
 use Rattle.sp_fock_law.proofs.Vectors.{entries-alike}
 use Rattle.sp_fock_law.specs.Tally.{TallyValue}
-use Rattle.sp_outcome_law.specs.Asking.{next_rank, left, is_past, is_too_large, asked}
+use Rattle.sp_outcome_law.specs.Asking.{next_rank, left, asked}
 use Rattle.sp_outcome_law.proofs.Decided.{decided_end}
 use Rattle.sp_outcome_law.proofs.Left.{left_end}
 use Rattle.sp_outcome_law.proofs.Reached.{all_passed}
@@ -33,7 +32,8 @@ module _ (key : Key) (rank : ℕ) (p : IsPlace (place key rank)) where
   row_left : (t : ℕ) → next_rank key.e mu t ≡ None →
       fock_vector key.degree (left key.e mu t) ≡ fock_vector key.degree (regular_row key.e mu)
   row_left t h = ap (λ es. as_vector es)
-      (entries-alike key.degree (left key.e mu t) (regular_row key.e mu) (λ lambda _. left_end key.e mu t f.is_label h lambda))
+      (entries-alike key.degree (left key.e mu t) (regular_row key.e mu) (λ lambda _. left_end key.e mu t
+      f.is_label h lambda))
     where
       as_vector : List (List ℕ × List (ℤ × ℤ)) → FockVector
       as_vector es = record { degree = key.degree; entries = es }

@@ -1,13 +1,12 @@
 -- What is known where a builder is given the row that it asked for.
-use Rattle.std.proofs.Common.{◌≡◌, ◌≢◌, ℕ, ◌<◌, ◌≤◌, true, false, List, [], length, get_or, refl, sym, ◌∙◌, ap, ap₂, subst, arith}
+use Rattle.std.proofs.Common.{◌≡◌, ◌≢◌, ℕ, ◌<◌, ◌≤◌, true, false, List, [], length, get_or, refl}
+use Rattle.std.proofs.Common.{sym, ◌∙◌, ap, ap₂, subst, arith}
 use Rattle.std.proofs.Common.{Option, None, Some, Vec}
 use Rattle.std.specs.declared.alloc.Global.{Global}
-use Rattle.std.specs.Option.{option_map}
 use Rattle.std.specs.List.{AllByRecursion}
-use Rattle.sp_defs.specs.Partition.{degree}
 use Rattle.sp_defs.specs.Laurent.{Laurent}
 use Rattle.sp_defs.specs.Power.{FockVector, fock_vector, entries}
-use Rattle.sp_defs.specs.Row.{earlier, regular_row, shares, outcome, Outcome, TooLarge, Stray, Row}
+use Rattle.sp_defs.specs.Row.{earlier, regular_row, shares, Outcome, TooLarge, Stray, Row}
 use Rattle.sp_defs.specs.Within.{ProductWithin}
 use Rattle.sp_laurent.specs.Held.{power_limit}
 use Rattle.sp_row_bounds.specs.Powers.{row_bound}
@@ -19,7 +18,6 @@ use Rattle.sp_core.specs.declared.piece.Key.{Key}
 use Rattle.sp_fock_law.specs.Tally.{TallyValue}
 use Rattle.sp_llt.specs.declared.share.Share.{Share}
 use Rattle.sp_llt.specs.Place.{IsPlace, place, Place, Progress, IsProgress, progress, label}
-use Rattle.sp_llt.specs.Refusals.{outcome_at}
 use Rattle.sp_llt.specs.declared.builder.State.{State}
 use Rattle.sp_llt.specs.declared.builder.State.TheVariants.{Open}
 use Rattle.sp_llt.specs.Reached.{IsOpen, IsBuilder}
@@ -96,7 +94,8 @@ module _ (b : Progress) (key : Key) (rank t : ℕ) (state : State) (tally : Tall
 
   pub giving : GivenFacts key rank t share entry
   giving = given_facts key rank t tally shares_of.items share entry builder.place.place opened
-      (subst (λ (p : Progress). asked p.key.e p.key.limit (label p.key p.rank) p.reached ≡ Some entry.rank) (sym view) a)
+      (subst (λ (p : Progress). asked p.key.e p.key.limit (label p.key p.rank) p.reached ≡ Some entry.rank)
+      (sym view) a)
       (k ∙ ap (λ (p : Progress). p.key) (sym view))
 
 -- ---- the powers in the product of a share and its row

@@ -1,10 +1,10 @@
 -- The laws of rows, told of what an entry holds.
-use Rattle.std.proofs.Common.{◌≡◌, ◌≢◌, ℕ, suc, ◌+◌, ◌*◌, ◌<◌, ◌≤◌, true, false, List, [], ◌∷◌, map, filter, drop, reverse, length, get_or}
-use Rattle.std.proofs.Common.{refl, sym, ◌∙◌, ap, ap₂, subst, arith, nat_lt}
+use Rattle.std.proofs.Common.{◌≡◌, ◌≢◌, ℕ, ◌+◌, ◌*◌, ◌<◌, true, List, [], map, length, get_or}
+use Rattle.std.proofs.Common.{sym, ◌∙◌, ap, ap₂, subst, arith}
 use Rattle.std.specs.List.{AllByRecursion}
-use Rattle.sp_defs.specs.Partition.{degree, partitions, compare, IsEarlier, IsPartitionOf}
-use Rattle.sp_defs.specs.Laurent.{Laurent, one, IsBarInvariant}
-use Rattle.sp_defs.specs.Power.{Entries, entries, vector_of}
+use Rattle.sp_defs.specs.Partition.{partitions, IsEarlier, IsPartitionOf}
+use Rattle.sp_defs.specs.Laurent.{Laurent, IsBarInvariant}
+use Rattle.sp_defs.specs.Power.{entries}
 use Rattle.sp_defs.specs.Row.{earlier, regular_row, shares}
 use Rattle.sp_defs.specs.Statements.{SameContent}
 use Rattle.sp_defs.specs.Within.{PowersWithin}
@@ -23,8 +23,7 @@ use Rattle.sp_outcome_law.proofs.Earlier.{row_earlier}
 use Rattle.sp_outcome_law.proofs.Listed.{nonempty}
 use Rattle.sp_outcome_law.proofs.Ranks.{length_shares, earlier_at}
 use Rattle.sp_core.specs.declared.piece.Key.{Key}
-use Rattle.sp_llt.specs.declared.share.Share.{Share}
-use Rattle.sp_llt.specs.Place.{IsPlace, place, Place, label, labels}
+use Rattle.sp_llt.specs.Place.{IsPlace, place, label}
 use Rattle.sp_llt.specs.Laws.{ObeysRowLaw, ObeysShareLaw, row_powers}
 use Rattle.sp_llt.specs.Shares.{given_shares, ranked_share}
 use Rattle.sp_llt.proofs.Lists.{all_reverse, all_places}
@@ -49,7 +48,8 @@ module _ (key : Key) (rank : ℕ) (p : IsPlace (place key rank)) where
   bound_is = ap₂ (λ k d. (k + 1) * (d * d)) f.count f.total
 
   powers : AllByRecursion (λ t. PowersWithin (row_powers (place key rank)) t.1) (entries n (regular_row e mu))
-  powers = subst (λ d. AllByRecursion (λ t. PowersWithin (row_powers (place key rank)) t.1) (entries d (regular_row e mu)))
+  powers = subst (λ d. AllByRecursion (λ t. PowersWithin (row_powers (place key rank)) t.1) (entries d
+      (regular_row e mu)))
       f.total
       (row_entries e mu (row_powers (place key rank)) f.is_label (omega (arith, bound_is)))
 
@@ -75,7 +75,8 @@ module _ (key : Key) (rank : ℕ) (p : IsPlace (place key rank)) where
   share_obeys j lt nz = record {
     earlier = omega (arith, count, low);
     nonzero = nonempty a.1 nz;
-    invariant = all_at (λ s. IsBarInvariant s.1) (shares e mu) j ([], []) (rows_law e mu f.is_label).shares_invariant lt;
+    invariant = all_at (λ s. IsBarInvariant s.1) (shares e mu) j ([], []) (rows_law e mu
+        f.is_label).shares_invariant lt;
     content = subst (SameContent e mu) (at ∙ ap (label key) (sym count))
         (all_at (λ s. s.1 ≢ [] → SameContent e mu s.0) (shares e mu) j ([], [])
         (row_content_law e mu f.is_label).shares_at lt (nonempty a.1 nz));

@@ -1,7 +1,7 @@
 -- With no stray partition the regular row is a row.
-use Rattle.std.proofs.Common.{◌≡◌, ◌≢◌, ℕ, Bool, true, false, ◌&&◌, not, List, [], ◌∷◌, ◌++◌, map, reverse, refl, sym, ◌∙◌, ap}
+use Rattle.std.proofs.Common.{◌≡◌, ◌≢◌, ℕ, Bool, true, false, ◌&&◌, not, List, [], ◌∷◌, reverse, refl, sym, ◌∙◌, ap}
 use Rattle.std.proofs.Common.{subst, ◌⊎◌, inl, inr, None, Ordering, Less, Equal, Greater}
-use Rattle.std.specs.List.{AllByRecursion, find}
+use Rattle.std.specs.List.{AllByRecursion}
 use Rattle.std.specs.Ordering.{is_eq}
 use Rattle.sp_defs.specs.Partition.{degree, regulars, partitions, compare, IsPartition, IsRegularOf}
 use Rattle.sp_defs.specs.Laurent.{Laurent, times, IsPositive}
@@ -46,7 +46,8 @@ module _ (e : ℕ) (mu : List ℕ) (is : IsLabel e mu) where
       from : (f : List ℕ × Laurent) × OfDegree f.0 × (times f.1 (ladder_vector e f.0 lambda) ≢ []) →
           degree lambda ≡ degree mu
       from (f, (label, total), nz) =
-          sym ((ladder_law e f.0 label).below lambda pl (λ z. nz (ap (times f.1) z ∙ times_nought f.1))).one_degree ∙ total
+          sym ((ladder_law e f.0 label).below lambda pl (λ z. nz (ap (times f.1) z ∙ times_nought
+          f.1))).one_degree ∙ total
 
   -- ---- no partition is stray
 

@@ -1,10 +1,10 @@
 -- Where only positive powers occur: the lift is 0, and the test on the terms says so.
-use Rattle.std.proofs.Common.{◌≡◌, ◌≢◌, Bool, true, false, [], ◌∷◌, refl, sym, ◌∙◌, ap, subst, arith, ℤ, pos, ◌<ℤ◌, ◌≤ℤ◌}
+use Rattle.std.proofs.Common.{◌≡◌, Bool, true, false, [], ◌∷◌, refl, sym, ◌∙◌, ap, arith, ℤ, pos, ◌<ℤ◌}
 use Rattle.std.proofs.Common.{int_cmp, Less, Equal, Greater, Ordering, IsTrue, ◌↔◌, ◌&&◌}
 use Rattle.std.specs.Ordering.{MatchOrdering, is_gt}
 use Rattle.std.specs.Cmp.{int_ranks}
 use Rattle.std.proofs.lemmas.Int.{ints}
-use Rattle.sp_defs.specs.Laurent.{Laurent, coefficient, collect, plus, negate, bar, lift, IsLaurent, IsPositive}
+use Rattle.sp_defs.specs.Laurent.{Laurent, coefficient, collect, negate, bar, lift, IsLaurent, IsPositive}
 use Rattle.sp_defs.specs.Row.{is_positive}
 use Rattle.sp_algebra.proofs.Coefficients.{Above, Above-lower, Canonical}
 use Rattle.sp_algebra.proofs.Canonical.{canonical-from}

@@ -1,5 +1,5 @@
 -- What the state of a builder tells, and what an entry keeps.
-use Rattle.std.proofs.Common.{◌≡◌, ℕ, true, List, Option, sym, subst, Vec}
+use Rattle.std.proofs.Common.{◌≡◌, ℕ, true, List, Option, subst, Vec}
 use Rattle.std.specs.declared.alloc.Global.{Global}
 use Rattle.sp_outcome_law.specs.Asking.{is_past}
 use Rattle.sp_core.specs.declared.piece.Key.{Key}

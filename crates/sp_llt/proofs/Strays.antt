@@ -1,5 +1,6 @@
 -- Stray partitions: the search through the entries of a vector finds what the search through all partitions finds.
-use Rattle.std.proofs.Common.{◌≡◌, ℕ, Bool, true, false, cond, ◌&&◌, not, nat_lt, nat_eq, List, [], ◌∷◌, ◌++◌, map, filter, length}
+use Rattle.std.proofs.Common.{◌≡◌, ℕ, Bool, true, false, cond, ◌&&◌, not, nat_lt, nat_eq}
+use Rattle.std.proofs.Common.{List, [], ◌∷◌, map, filter, length}
 use Rattle.std.proofs.Common.{reverse, refl, sym, ◌∙◌, ap, Option, Some, None, Ordering, Less, Equal, Greater}
 use Rattle.std.specs.List.{find}
 use Rattle.std.specs.Option.{option_map}
@@ -83,7 +84,8 @@ module _ (mu : List ℕ) (w : Vector) where
       tested false e ih =
           ih
           ∙ none_more (find is_stray (reverse xs))
-          ∙ ap (λ b. found_first (find is_stray (reverse xs)) (cond b (Some x) None)) (sym (not_zero x (no_element (w x) e)))
+          ∙ ap (λ b. found_first (find is_stray (reverse xs)) (cond b (Some x) None)) (sym (not_zero x
+          (no_element (w x) e)))
 
 -- the stray partition of a row, from the row's entries
 pub stray_found : (e n : ℕ) (mu : List ℕ) → degree mu ≡ n →

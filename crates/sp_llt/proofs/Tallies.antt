@@ -1,32 +1,32 @@
 -- What a builder keeps: the tally, and the shares so far, at the start and from rank to rank.
-use Rattle.std.proofs.Common.{◌≡◌, ℕ, suc, ◌+◌, ◌*◌, ◌<◌, ◌≤◌, Bool, true, false, ◌||◌, List, [], ◌∷◌, ◌++◌, map, filter, length}
-use Rattle.std.proofs.Common.{reverse, refl, sym, ◌∙◌, ap, ap₂, subst, arith, Option, Some, None, nat_lt, lt-ltb, le-ltb, ℤ, pos, ◌+ℤ◌}
+use Rattle.std.proofs.Common.{◌≡◌, ℕ, ◌+◌, ◌*◌, ◌<◌, ◌≤◌, Bool, true, false, ◌||◌, List}
+use Rattle.std.proofs.Common.{[], ◌∷◌, ◌++◌, map, filter, length}
+use Rattle.std.proofs.Common.{reverse, refl, sym, ◌∙◌, ap, ap₂, arith, Some, nat_lt, lt-ltb, le-ltb, ℤ}
 use Rattle.std.proofs.lemmas.Int.{ints}
 use Rattle.std.proofs.lemmas.List.{reverse-append}
-use Rattle.std.specs.List.{AllByRecursion}
 use Rattle.sp_defs.specs.Partition.{degree, partitions, IsPartitionOf}
 use Rattle.sp_defs.specs.Laurent.{Laurent, coefficient, plus, negate, times, size}
-use Rattle.sp_defs.specs.Power.{Vector, FockVector, fock_vector, entries, vector_of, greatest}
+use Rattle.sp_defs.specs.Power.{FockVector, fock_vector, entries, vector_of, greatest}
 use Rattle.sp_defs.specs.Ladder.{ladder_vector, ladder_weight}
 use Rattle.sp_defs.specs.Row.{earlier, regular_row, outcome}
-use Rattle.sp_defs.specs.Within.{ProductWithin}
 use Rattle.sp_algebra.proofs.Laws.{coefficient-plus, coefficient-negate, IsLaurent-negate, IsLaurent-times, plus_negate}
 use Rattle.sp_algebra.proofs.Laws.{plus_times, nought_times}
 use Rattle.sp_algebra.proofs.Coefficients.{same_laurent}
 use Rattle.sp_shapes.proofs.Listing.{all_partitions}
 use Rattle.sp_shapes.proofs.Order.{all_mono}
-use Rattle.sp_fock_law.specs.Tally.{TallyValue, totals, tally_of, total_of, subtracted, subtraction_weight, grown_total}
+use Rattle.sp_fock_law.specs.Tally.{TallyValue, totals, tally_of, subtracted, subtraction_weight, grown_total}
 use Rattle.sp_fock_law.proofs.Vectors.{entries-alike, vector_of-entries}
 use Rattle.sp_fock_law.proofs.Totals.{total_of-totals}
-use Rattle.sp_outcome_law.specs.Asking.{share_at, given, next_rank, left, total, is_past, total_past, share_past, is_too_large}
+use Rattle.sp_outcome_law.specs.Asking.{share_at, given, next_rank, left, total, is_past}
+use Rattle.sp_outcome_law.specs.Asking.{total_past, share_past, is_too_large}
 use Rattle.sp_outcome_law.proofs.Reached.{given_none, step}
 use Rattle.sp_outcome_law.proofs.Left.{left_start, total_start, left_step, total_step}
 use Rattle.sp_outcome_law.proofs.Ranks.{length_shares}
 use Rattle.sp_outcome_law.proofs.Decided.{past_start, past_step, total_past_by}
 use Rattle.sp_core.specs.declared.piece.Key.{Key}
 use Rattle.sp_llt.specs.declared.share.Share.{Share}
-use Rattle.sp_llt.specs.Place.{IsPlace, place, label, labels}
-use Rattle.sp_llt.specs.Shares.{given_shares, ranked_share, rank_of}
+use Rattle.sp_llt.specs.Place.{IsPlace, place, label}
+use Rattle.sp_llt.specs.Shares.{given_shares, ranked_share}
 use Rattle.sp_llt.specs.Reached.{tally_at, IsWithin}
 use Rattle.sp_llt.proofs.Lists.{map_alike}
 use Rattle.sp_llt.proofs.Positive.{nothing}
@@ -103,7 +103,11 @@ module _ (key : Key) (rank : ℕ) (p : IsPlace (place key rank)) where
   pub shares_start : [] ≡ given_shares e mu rank
   unfolding given_shares
   shares_start =
-      sym (ap (λ fs. reverse (map (ranked_share e) fs)) (given_none e mu rank (omega (arith, start, length_shares e mu))))
+      sym (ap (λ fs. reverse (map (ranked_share e) fs)) (given_none e mu rank (omega (
+        arith,
+        start,
+        length_shares e mu,
+      ))))
 
   pub within_start : ladder_weight e mu ≤ key.limit → IsWithin key mu rank
   within_start le =
@@ -122,7 +126,8 @@ module _ (key : Key) (rank : ℕ) (p : IsPlace (place key rank)) where
     abbrev row : FockVector
     row = fock_vector n (regular_row e nu)
 
-    grown : (lambda : List ℕ) → IsPartitionOf n lambda → grown_total (tally_at key mu t) alpha row lambda ≡ total e mu j lambda
+    grown : (lambda : List ℕ) → IsPartitionOf n lambda → grown_total (tally_at key mu t) alpha row lambda ≡
+        total e mu j lambda
     grown lambda h =
         ap₂ (λ x q. x + size alpha * size q) (total_of-totals n (total e mu t) lambda h)
         (vector_of-entries n (regular_row e nu) lambda h)

@@ -10,7 +10,7 @@ use Rattle.sp_llt.specs.declared.entry.Found.{Found}
 use Rattle.sp_llt.specs.declared.entry.Found.TheVariants as found
 use Rattle.sp_llt.specs.declared.refused.Refused.{Refused}
 use Rattle.sp_llt.specs.declared.refused.Refused.TheVariants as refused
-use Rattle.sp_llt.specs.Place.{IsKey, label, place, IsPlace}
+use Rattle.sp_llt.specs.Place.{label, place, IsPlace}
 use Rattle.sp_llt.specs.Shares.{given_shares}
 
 -- The regular row, its shares and its stray partition, where the row isn't too large.

@@ -1,5 +1,5 @@
 -- What the laws of rows say of the regular row and the shares that an entry holds.
-use Rattle.std.specs.Prelude.{◌≡◌, ◌≢◌, ℕ, ◌+◌, ◌*◌, ◌<◌, List, []}
+use Rattle.std.specs.Prelude.{◌≡◌, ◌≢◌, ℕ, ◌+◌, ◌*◌, ◌<◌, []}
 use Rattle.std.specs.List.{AllByRecursion}
 use Rattle.sp_defs.specs.Partition.{IsEarlier}
 use Rattle.sp_defs.specs.Laurent.{one, IsBarInvariant}
@@ -13,7 +13,8 @@ use Rattle.sp_llt.specs.Place.{Place, label}
 abbrev pub row_powers : Place → ℕ
 row_powers p = (p.rank + 1) * (p.key.degree * p.key.degree)
 
--- The coefficient at mu is 1, every other partition is earlier than mu, all have mu's content, and the powers are within
+-- The coefficient at mu is 1, every other partition is earlier than mu, all have mu's content, and the powers are
+-- within
 -- a bound.
 pub record ObeysRowLaw (p : Place) (es : Entries) : Type 0 where
   pub at_mu : vector_of es (label p.key p.rank) ≡ one

@@ -1,5 +1,5 @@
 -- What a builder keeps of its row.
-use Rattle.std.specs.Prelude.{◌≡◌, ℕ, ◌≤◌, true, false, List, Option, IfSome}
+use Rattle.std.specs.Prelude.{◌≡◌, ℕ, true, false, List, Option, IfSome}
 use Rattle.std.specs.Option.{option_map}
 use Rattle.sp_defs.specs.Power.{fock_vector}
 use Rattle.sp_core.specs.declared.piece.Key.{Key}

@@ -1,7 +1,6 @@
 -- Refused entries of a list.
-use Rattle.std.specs.Prelude.{◌≡◌, ℕ, List, Option, None, Some, [], ◌∷◌}
+use Rattle.std.specs.Prelude.{ℕ, List, Option, None, Some, [], ◌∷◌}
 use Rattle.sp_defs.specs.Row.{Outcome, outcome, TooLarge, Stray, Row}
-use Rattle.sp_llt.specs.declared.refused.Refused.{Refused}
 use Rattle.sp_llt.specs.declared.refused.Refused.TheVariants as refused
 use Rattle.sp_llt.specs.declared.refused.FirstRefused.{FirstRefused}
 use Rattle.sp_llt.specs.Place.{Place, label}

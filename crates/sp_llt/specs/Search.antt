@@ -1,9 +1,9 @@
 -- What a search through a vector finds.
-use Rattle.std.specs.Prelude.{◌≡◌, ◌≢◌, ℕ, ◌<◌, ◌≤◌, ◌+◌, Bool, ◌&&◌, not, List, [], get_or, reverse, find, map, Option}
+use Rattle.std.specs.Prelude.{◌≡◌, ◌≢◌, ℕ, ◌<◌, ◌≤◌, ◌+◌, Bool, ◌&&◌, not, List, [], get_or}
 use Rattle.std.specs.Ordering.{is_eq}
 use Rattle.sp_defs.specs.Partition.{compare}
 use Rattle.sp_defs.specs.Laurent.{Laurent, lift, size}
-use Rattle.sp_defs.specs.Power.{Vector, Entries}
+use Rattle.sp_defs.specs.Power.{Vector}
 use Rattle.sp_defs.specs.Row.{is_positive}
 use Rattle.sp_llt.specs.declared.share.Share.{Share}
 

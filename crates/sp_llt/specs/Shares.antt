@@ -1,5 +1,5 @@
 -- The shares that aren't 0, by ranks.
-use Rattle.std.specs.Prelude.{ℕ, List, [], map, reverse, filter, length, cond}
+use Rattle.std.specs.Prelude.{ℕ, List, [], map, reverse, length, cond}
 use Rattle.sp_defs.specs.Laurent.{Laurent}
 use Rattle.sp_defs.specs.Row.{earlier, outcome}
 use Rattle.sp_outcome_law.specs.Asking.{given, is_too_large}

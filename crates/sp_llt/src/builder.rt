@@ -70,7 +70,8 @@ impl<'a> Builder<'a> {
 
     /// The rank of the earlier entry that comes next. None exactly where the outcome is decided. It takes no memory.
     pub fn ask(&self) -> Option<usize>
-        ensures asks { result ≡ asked self.now.key.e self.now.key.limit (label self.now.key self.now.rank) self.now.reached }
+        ensures asks { result ≡
+            asked self.now.key.e self.now.key.limit (label self.now.key self.now.rank) self.now.reached }
         // where the row isn't too large, these are the ranks of all shares that aren't 0
         ensures shares { outcome self.now.key.e self.now.key.limit (label self.now.key self.now.rank) ≢ IsTooLarge →
             result ≡ next_rank self.now.key.e (label self.now.key self.now.rank) self.now.reached }

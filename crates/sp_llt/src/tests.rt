@@ -1,10 +1,8 @@
 ghost use Rattle.std.specs.Prelude.{◌≤◌, ◌<◌, ◌^◌};
 
-use crate::{Builder, Ctx, Entry, Refused, entry_alone, first_refused, rows_law};
-use sp_core::{Key, Piece};
+use crate::{Ctx, Entry, Refused, entry_alone, rows_law};
 use sp_partition::{DEGREE_LIMIT, Partition};
 use std::alloc::Global;
-use std::sync::Arc;
 use std::test::Fail;
 
 #[test]
@@ -71,6 +69,25 @@ fn rows_and_limits(rt: HostRuntime) -> Result<(), Fail> {
     assert_eq!(rt; text(alloc, 2, &[7], 5)?.as_slice(), large);
     // a coefficient of a partial ladder vector is past the limit, none of the vector itself
     assert_eq!(rt; text(alloc, 4, &[5, 2, 2, 1, 1], 1)?.as_slice(), large);
+    Ok(())
+}
+
+#[test]
+fn shares_of_more_terms_and_needed_weights(rt: HostRuntime) -> Result<(), Fail> {
+    let alloc = rt.alloc();
+    let six_two =
+        b"[6,2] + v[6,1^2] + v[5,3] + v^2[5,1^3] + v[4,3,1] + v^2[4,2^2] + (v+v^3)[4,2,1^2] \
+        + v^2[4,1^4] + v^2[3^2,1^2] + v^3[3,2^2,1] + v^3[3,1^5] + v^3[2^3,1^2] + v^4[2^2,1^4]; \
+        v^-1+v at 4,3,1"
+            .as_slice();
+    assert_eq!(rt; text(alloc, 2, &[6, 2], 1_000_000)?.as_slice(), six_two);
+    // the weight of (9,1) itself is 3, that of a partition that it needs is 6
+    let nine_one = b"[9,1] + v[6,2^2] + v[3^2,2,1^2] + v^2[3,2^3,1]; 1 at 6,4".as_slice();
+    assert_eq!(rt; text(alloc, 3, &[9, 1], 6)?.as_slice(), nine_one);
+    assert_eq!(rt;
+        text(alloc, 3, &[9, 1], 5)?.as_slice(),
+        b"too large".as_slice()
+    );
     Ok(())
 }
 

@@ -1,6 +1,6 @@
 -- The test of initial sums is dominance, for partitions of one degree.
-use Rattle.std.proofs.Common.{◌≡◌, ℕ, zero, suc, ◌+◌, ◌<◌, ◌≤◌, Bool, true, false, nat_le, List, take, sum, length, min}
-use Rattle.std.proofs.Common.{refl, sym, ◌∙◌, ap, arith, leb-true, le-leb}
+use Rattle.std.proofs.Common.{◌≡◌, ℕ, zero, suc, Bool, true, false, nat_le, List, take, sum, length, min}
+use Rattle.std.proofs.Common.{refl, sym, ◌∙◌, arith, leb-true, le-leb}
 use Rattle.std.specs.Prelude.{IsTrue, ◌↔◌}
 use Rattle.sp_defs.specs.Partition.{Dominates, from_one_to}
 use Rattle.sp_lists.proofs.Elements.{all_tests, tests_all, range_all, range_at}

@@ -2,8 +2,8 @@
 use Rattle.std.proofs.Common.{◌≡◌, ℕ, ◌+◌, ◌*◌, ◌≤◌, Bool, true, false, cond, nat_eq, List, [], ◌∷◌, refl, sym, ◌∙◌}
 use Rattle.std.proofs.Common.{ap, ap₂}
 use Rattle.std.proofs.Common.{arith, ◌⊎◌, inl, inr, subst}
-use Rattle.std.proofs.Common.{◌<◌, not, nat_lt, length, ◌↔◌, eq-eqb, eqb-true, lt-ltb, ltb-true, ltb-false}
-use Rattle.std.specs.Prelude.{Some, None, Result, Ok, Err, find, sum_by, ◌&&◌, codes}
+use Rattle.std.proofs.Common.{◌<◌, nat_lt, length, ◌↔◌, eq-eqb, eqb-true, lt-ltb, ltb-true, ltb-false}
+use Rattle.std.specs.Prelude.{Some, Result, Ok, Err, find, sum_by, codes}
 use Rattle.std.specs.List.{AllByRecursion}
 use Rattle.std.specs.Cmp.Lexicographic.{pointwise, bytes_decides}
 use Rattle.sp_defs.specs.Partition.{IsPartition, IsPartitionOf, degree, partitions}

@@ -9,7 +9,7 @@ use std::vec;
 /// A case: the words, the input, the call of the source and of the sink that fails, if any, the status and the output.
 #[derive(Drop)]
 struct Case {
-    word: Option<&'static str>,
+    words: &'static [&'static str],
     input: &'static str,
     failing_read: u64,
     failing_write: u64,
@@ -20,7 +20,7 @@ struct Case {
 /// No words, and nothing fails.
 fn plain(input: &'static str, status: Status, output: &'static str) -> Case {
     Case {
-        word: None,
+        words: &[],
         input,
         failing_read: 0,
         failing_write: 0,
@@ -32,7 +32,7 @@ fn plain(input: &'static str, status: Status, output: &'static str) -> Case {
 /// Whether a run ends as the case says.
 fn holds(alloc: Global, case: &Case) -> Result<bool, AllocError> {
     let mut words = Vec::new(alloc);
-    if let Some(word) = case.word {
+    for word in case.words {
         words.push(String::from_str(alloc, word)?)?;
     }
     let mut input = Vec::new(alloc);
@@ -49,7 +49,7 @@ fn a_run_says_how_it_ended(rt: HostRuntime) -> Result<(), Fail> {
         plain("", Status::Done, ""),
         plain("conjugate 3,1", Status::Done, "2,1^2\n"),
         Case {
-            word: Some("frob"),
+            words: &["frob"],
             ..plain("conjugate 3,1\n", Status::Usage, "")
         },
         Case {
@@ -266,5 +266,42 @@ fn an_input_of_newlines_past_the_limit_has_no_reply(rt: HostRuntime) -> Result<(
     input.resize(16_777_217, b'\n')?;
     let (status, written) = run_of(alloc, input, 1_000_000)?;
     assert!(rt; status == Status::InputTooLong && written.is_empty());
+    Ok(())
+}
+
+#[test]
+fn ladder_vectors_are_refused_past_the_limit(rt: HostRuntime) -> Result<(), Fail> {
+    let within = "[5] + [3,2] + 2v[3,1^2] + v^2[2^2,1] + v^2[1^5]\n";
+    let cases: [(&'static [&'static str], &'static str); 4] = [
+        (&["--limit", "1"], "error 9 too large\n"),
+        (&["--limit=1"], "error 9 too large\n"),
+        (&["--limit", "2"], within),
+        (&["--limit=170141183460469231731687303715884105727"], within),
+    ];
+    for (words, output) in cases {
+        let case = Case {
+            words,
+            ..plain("ladder 2 5\n", Status::Done, output)
+        };
+        assert!(rt; holds(rt.alloc(), &case)?, "at {output}");
+    }
+    Ok(())
+}
+
+#[test]
+fn other_words_are_refused(rt: HostRuntime) -> Result<(), Fail> {
+    let cases: [&'static [&'static str]; 4] = [
+        &["--limit", "007"],
+        &["--"],
+        &["frob"],
+        &["--workers", "2"],
+    ];
+    for words in cases {
+        let case = Case {
+            words,
+            ..plain("ladder 2 5\n", Status::Usage, "")
+        };
+        assert!(rt; holds(rt.alloc(), &case)?);
+    }
     Ok(())
 }

@@ -1,4 +1,4 @@
-use Rattle.std.proofs.Common.{◌≡◌, ℕ, length}
+use Rattle.std.proofs.Common.{◌≡◌, length}
 use Rattle.sp_llt.specs.Table.{IsTable}
 use Rattle.sp_llt.proofs.alone.+fill.Given as goal
 

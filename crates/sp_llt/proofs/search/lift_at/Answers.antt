@@ -1,4 +1,5 @@
-use Rattle.std.proofs.Common.{◌≡◌, ℕ, ◌≤◌, ◌<◌, sym, ◌∙◌, ap, subst, Bool, true, false, ◌≢◌, [], IsTrue, ◌↔◌, arith, refl, not}
+use Rattle.std.proofs.Common.{◌≡◌, ℕ, ◌≤◌, ◌<◌, sym, ◌∙◌, ap, subst, Bool, true, false}
+use Rattle.std.proofs.Common.{◌≢◌, [], IsTrue, ◌↔◌, arith, refl}
 use Rattle.sp_defs.specs.Laurent.{Laurent, lift, size, IsPositive}
 use Rattle.sp_defs.specs.Power.{vector_of}
 use Rattle.sp_llt.proofs.Positive.{positive_lift, lift_positive, nothing}
@@ -16,13 +17,12 @@ le_of_not_lt m n h = omega (arith, h)
 pub returns-in_ok-lift-in-Some-clause-found : goal.returns-in_ok-lift-in-Some-clause-found
 returns-in_ok-lift-in-Some-clause-found c =
     let own : c.in-Some.coefficient.now ≡ vector_of c.args.vector.now.entries c.args.p.now = c.in-Some.ensures.some in
-    let is : c.in_ok-lift-in-Some.field-0 ≡ lift c.in-Some.coefficient.now = c.in_ok-lift-in-Some.ensures.ok in
-    (
+    let is : c.in_ok-lift-in-Some.field-0 ≡ lift c.in-Some.coefficient.now = c.in_ok-lift-in-Some.ensures.ok in (
       is ∙ ap lift own,
       (λ z. some_lift c.in_vzv.result c.in-Some.coefficient.now c.in_vzv.ensures c.if-not-in_vzv.true (sym is ∙ z)),
       subst (λ q. size q ≤ c.args.limit) (sym is)
-      (le_of_not_lt c.args.limit (size (lift c.in-Some.coefficient.now))
-      (λ large. let w = c.in_ok-lift-in-Some.ensures.too_large.1 large in cc)),
+          (le_of_not_lt c.args.limit (size (lift c.in-Some.coefficient.now))
+          (λ large. let w = c.in_ok-lift-in-Some.ensures.too_large.1 large in cc)),
     )
 
 pub returns-in_default-clause-found : goal.returns-in_default-clause-found

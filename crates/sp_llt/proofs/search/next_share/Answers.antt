@@ -1,9 +1,9 @@
-use Rattle.std.proofs.Common.{◌≡◌, ℕ, ◌+◌, ◌-◌, ◌<◌, ◌≤◌, List, [], length, get_or, sym, ◌∙◌, ap, subst, arith, Err}
+use Rattle.std.proofs.Common.{◌≡◌, ℕ, ◌-◌, ◌<◌, ◌≤◌, List, [], length, get_or, ◌∙◌, ap, subst, arith, Err}
 use Rattle.std.proofs.lemmas.List.{get_or_default}
 use Rattle.sp_defs.specs.Laurent.{lift, size}
 use Rattle.sp_defs.specs.Power.{Vector, vector_of}
 use Rattle.sp_laurent.specs.declared.fault.LaurentFault.TheVariants.{TooLarge}
-use Rattle.sp_llt.specs.Search.{NoLift, IsLargeLift, lift_at}
+use Rattle.sp_llt.specs.Search.{NoLift, IsLargeLift}
 use Rattle.sp_llt.proofs.search.next_share.Goals as goal
 
 -- the lift just below k, with none from k on

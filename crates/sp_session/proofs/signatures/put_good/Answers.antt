@@ -1,4 +1,4 @@
-use Rattle.std.proofs.Common.{◌++◌, ◌∙◌, sym, ap, flat_map, append_assoc, refl, arith}
+use Rattle.std.proofs.Common.{◌++◌, ◌∙◌, sym, ap, flat_map, append_assoc, arith}
 use Rattle.std.specs.List.{range_with_len}
 use Rattle.sp_lists.proofs.FlatMaps.{flat_map-range_more}
 use Rattle.sp_session.specs.Signatures.{residue_line}

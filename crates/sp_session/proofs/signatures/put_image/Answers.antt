@@ -1,5 +1,4 @@
 use Rattle.std.proofs.Common.{◌++◌, ◌∙◌, sym, ap}
-use Rattle.std.specs.Prelude.{Some}
 use Rattle.sp_session.specs.Signatures.{image_or_refusal}
 use Rattle.sp_session.proofs.Images.{refused}
 use Rattle.sp_session.proofs.WordRows.{appended, on_ok}

@@ -1,5 +1,4 @@
-use Rattle.std.proofs.Common.{◌≡◌, ◌≢◌, ℕ, ◌<◌, true, sym, ◌∙◌, subst, Option, None, Some, IfSome}
-use Rattle.std.specs.Option.{option_map}
+use Rattle.std.proofs.Common.{◌≡◌, ◌≢◌, ◌<◌, true, sym, ◌∙◌, subst, None, IfSome}
 use Rattle.sp_defs.specs.Row.{outcome, TooLarge}
 use Rattle.sp_defs.specs.Statements.{SameContent}
 use Rattle.sp_outcome_law.specs.Asking.{asked, next_rank, is_past}
@@ -35,7 +34,8 @@ returns-in-TooLarge-clause-shares c =
     c.self.view_is
     (λ fits. absurd
     (fits
-    (past_outcome c.self.inside.ctx.now c.self.inside.rank c.self.invariant.place.place c.self.inside.reached (past c))))
+    (past_outcome c.self.inside.ctx.now c.self.inside.rank c.self.invariant.place.place c.self.inside.reached
+    (past c))))
 
 -- ---- a next share, or none
 

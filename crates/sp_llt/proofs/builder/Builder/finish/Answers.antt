@@ -2,10 +2,9 @@ use Rattle.std.proofs.Common.{◌≡◌, ℕ, List, reverse, sym, ◌∙◌, ap,
 use Rattle.std.specs.Option.{option_map}
 use Rattle.std.specs.List.{find}
 use Rattle.sp_defs.specs.Power.{FockVector}
-use Rattle.sp_defs.specs.Row.{outcome, TooLarge}
+use Rattle.sp_defs.specs.Row.{outcome}
 use Rattle.sp_outcome_law.specs.Asking.{asked}
 use Rattle.sp_core.specs.declared.piece.Key.{Key}
-use Rattle.sp_llt.specs.declared.share.Share.{Share}
 use Rattle.sp_llt.specs.declared.entry.Found.TheVariants as found
 use Rattle.sp_llt.specs.Place.{Progress, label}
 use Rattle.sp_llt.specs.Search.{is_stray_entry}
@@ -20,10 +19,13 @@ pub new-requires : goal.new-requires
 new-requires c =
     let key = c.self.inside.ctx.now in
     let place = c.self.invariant.place.place in
-    let is = read_label key c.self.inside.rank c.regulars.result.now c.index-regulars-rank.result c.regulars.ensures.value
+    let is = read_label key c.self.inside.rank c.regulars.result.now c.index-regulars-rank.result
+    c.regulars.ensures.value
     place.rank c.index-regulars-rank.is in
-    let past = told_past key c.self.inside.rank c.self.inside.reached c.self.inside.state c.self.invariant c.in-TooLarge.is in
-    subst (λ (k : Key). IsKept k c.self.inside.rank c.index-regulars-rank.result found.TooLarge) (sym c.key.ensures.value)
+    let past = told_past key c.self.inside.rank c.self.inside.reached c.self.inside.state c.self.invariant
+    c.in-TooLarge.is in
+    subst (λ (k : Key). IsKept k c.self.inside.rank c.index-regulars-rank.result found.TooLarge) (sym
+    c.key.ensures.value)
     (record {
       place = place;
       mu = is;

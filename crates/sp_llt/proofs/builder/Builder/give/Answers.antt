@@ -1,18 +1,16 @@
-use Rattle.std.proofs.Common.{◌≡◌, ◌≢◌, ℕ, ◌<◌, ◌≤◌, true, false, List, []  , ◌∷◌, ◌++◌, refl, sym, ◌∙◌, ap, ap₂, subst, arith}
-use Rattle.std.proofs.Common.{Option, None, Some, Ok, Err, IfOk}
+use Rattle.std.proofs.Common.{◌≡◌, ◌<◌, ◌≤◌, [], ◌∷◌, ◌++◌, refl, sym, ◌∙◌, ap, ap₂, subst}
+use Rattle.std.proofs.Common.{Some, Err, IfOk}
 use Rattle.std.specs.List.{AllByRecursion}
 use Rattle.sp_defs.specs.Laurent.{Laurent}
 use Rattle.sp_defs.specs.Power.{FockVector}
-use Rattle.sp_defs.specs.Row.{outcome}
 use Rattle.sp_defs.specs.Within.{ProductWithin}
 use Rattle.sp_laurent.specs.Held.{power_limit}
-use Rattle.sp_outcome_law.specs.Asking.{asked, is_too_large, share_past, next_rank, is_past}
+use Rattle.sp_outcome_law.specs.Asking.{asked}
 use Rattle.sp_core.specs.declared.piece.Key.{Key}
-use Rattle.sp_fock_law.specs.Tally.{TallyValue, subtracted, subtraction_weight}
-use Rattle.sp_llt.specs.declared.share.Share.{Share}
+use Rattle.sp_fock_law.specs.Tally.{subtracted, subtraction_weight}
 use Rattle.sp_llt.specs.Place.{Place, Progress, progress, label, place}
 use Rattle.sp_llt.specs.Refusals.{outcome_at}
-use Rattle.sp_llt.specs.Reached.{IsOpen, tally_at, IsWithin}
+use Rattle.sp_llt.specs.Reached.{IsOpen}
 use Rattle.sp_llt.proofs.States.{told_past, told_open}
 use Rattle.sp_llt.proofs.Tallies.{tally_step, past_row, past_totals, within_step, shares_step}
 use Rattle.sp_llt.proofs.Giving.{not_past, not_none, at_most, large_outcome, other_outcome, row_of, giving, opened}
@@ -25,7 +23,8 @@ unreachable-requires c =
     let rank = c.self.inside.rank in
     let t = c.self.inside.reached in
     let past = told_past key rank t c.self.inside.state c.self.invariant c.in_default.is in
-    let a = subst (λ (b : Progress). asked b.key.e b.key.limit (label b.key b.rank) b.reached ≡ Some c.args.entry.now.rank)
+    let a = subst (λ (b : Progress). asked b.key.e b.key.limit (label b.key b.rank) b.reached ≡ Some
+    c.args.entry.now.rank)
     (sym c.self.view_is) c.requires.asked in
     not_past key.e key.limit (label key rank) t c.args.entry.now.rank past a
 
@@ -36,7 +35,8 @@ unreachable-requires-in_default-next c =
     let t = c.self.inside.reached in
     let is = told_open key rank t c.self.inside.state c.in-Open.tally c.in-Open.shares c.in-Open.next c.self.invariant
     c.in-Open.is in
-    let a = subst (λ (b : Progress). asked b.key.e b.key.limit (label b.key b.rank) b.reached ≡ Some c.args.entry.now.rank)
+    let a = subst (λ (b : Progress). asked b.key.e b.key.limit (label b.key b.rank) b.reached ≡ Some
+    c.args.entry.now.rank)
     (sym c.self.view_is) c.requires.asked in
     not_none key (label key rank) t c.args.entry.now.rank c.in-Open.tally c.in-Open.shares.items
     (subst (λ n. IsOpen key (label key rank) t c.in-Open.tally c.in-Open.shares.items n) c.in_default-next.is is) a
@@ -58,7 +58,8 @@ too_large-requires-clause-past c =
     let o = opened c.args.self c.self.inside.ctx.now c.self.inside.rank c.self.inside.reached c.self.inside.state
     c.in-Open.tally c.in-Open.shares c.in-Open.next c.in-Some.share c.args.entry.now c.self.view_is c.self.invariant
     c.in-Open.is c.in-Some.is c.requires.asked c.requires.entry in
-    past_row c.self.inside.ctx.now c.self.inside.rank c.self.invariant.place.place c.self.inside.reached c.in-Some.share.rank
+    past_row c.self.inside.ctx.now c.self.inside.rank c.self.invariant.place.place c.self.inside.reached
+    c.in-Some.share.rank
     c.in-Some.share.alpha (label c.self.inside.ctx.now c.in-Some.share.rank) f.next f.value o.undecided
     (large_outcome (outcome_at (place c.self.inside.ctx.now c.in-Some.share.rank))
     (sym (ap outcome_at f.entry) ∙ c.in_default-regular_row.ensures.none.0 refl))
@@ -83,7 +84,8 @@ subtract-requires-clause-within c =
     c.in-Open.is c.in-Some.is c.requires.asked c.requires.entry in
     subst (fits c.in-Some.share.alpha) (sym (c.in-Some-regular_row.ensures.some ∙ ap row_of f.entry))
     (product_fits c.self.inside.ctx.now c.self.inside.rank c.in-Some.share.rank
-    (label c.self.inside.ctx.now c.in-Some.share.rank) c.in-Some.share.alpha c.self.invariant.place.place f.lower f.value)
+    (label c.self.inside.ctx.now c.in-Some.share.rank) c.in-Some.share.alpha c.self.invariant.place.place
+    f.lower f.value)
 
 pub reach-requires-clause-place : goal.reach-requires-clause-place
 reach-requires-clause-place c =
@@ -105,12 +107,14 @@ reach-requires-clause-within c =
     let small = at_most c.key.result.limit
     (subtraction_weight c.in-Open.tally c.in-Some.share.alpha c.in-Some-regular_row.row.now)
     (λ large. let w = c.in-Ok.ensures.too_large.1 large in cc) in
-    within_step c.self.inside.ctx.now c.self.inside.rank c.self.invariant.place.place c.self.inside.reached c.in-Some.share.rank
+    within_step c.self.inside.ctx.now c.self.inside.rank c.self.invariant.place.place c.self.inside.reached
+    c.in-Some.share.rank
     c.in-Some.share.alpha (label c.self.inside.ctx.now c.in-Some.share.rank) f.next f.value o.undecided
     (other_outcome (outcome_at (place c.self.inside.ctx.now c.in-Some.share.rank))
     (λ large. let w = c.in-Some-regular_row.ensures.none.1 (ap outcome_at f.entry ∙ large) in cc))
     (subst (λ n. n ≤ c.self.inside.ctx.now.limit) same
-    (subst (λ (k : Key). subtraction_weight c.in-Open.tally c.in-Some.share.alpha c.in-Some-regular_row.row.now ≤ k.limit)
+    (subst (λ (k : Key). subtraction_weight c.in-Open.tally c.in-Some.share.alpha c.in-Some-regular_row.row.now
+    ≤ k.limit)
     c.key.ensures.value small))
 
 pub reach-requires-clause-left : goal.reach-requires-clause-left
@@ -123,7 +127,8 @@ reach-requires-clause-left c =
     c.in-Open.is c.in-Some.is c.requires.asked c.requires.entry in
     c.in-Ok.ensures.ok
     ∙ ap₂ (λ x y. subtracted x c.in-Some.share.alpha y) o.left (c.in-Some-regular_row.ensures.some ∙ ap row_of f.entry)
-    ∙ tally_step c.self.inside.ctx.now c.self.inside.rank c.self.invariant.place.place c.self.inside.reached c.in-Some.share.rank
+    ∙ tally_step c.self.inside.ctx.now c.self.inside.rank c.self.invariant.place.place c.self.inside.reached
+    c.in-Some.share.rank
     c.in-Some.share.alpha (label c.self.inside.ctx.now c.in-Some.share.rank) f.next f.value
 
 pub reach-requires-clause-given : goal.reach-requires-clause-given
@@ -136,7 +141,8 @@ reach-requires-clause-given c =
     c.in-Open.is c.in-Some.is c.requires.asked c.requires.entry in
     c.in_ok-push-in-Ok.ensures.items
     ∙ ap (λ xs. xs ++ (c.in-Some.share ∷ [])) o.shares
-    ∙ shares_step c.self.inside.ctx.now c.self.inside.rank c.self.invariant.place.place c.self.inside.reached c.in-Some.share.rank
+    ∙ shares_step c.self.inside.ctx.now c.self.inside.rank c.self.invariant.place.place c.self.inside.reached
+    c.in-Some.share.rank
     c.in-Some.share.alpha (label c.self.inside.ctx.now c.in-Some.share.rank) f.next f.value f.count
 
 pub returns-in-Ok : goal.returns-in-Ok
@@ -167,10 +173,12 @@ too_large-requires-in-Err-TooLarge-clause-past c =
     c.in-Open.is c.in-Some.is c.requires.asked c.requires.entry in
     let same = ap₂ (λ x y. subtraction_weight x c.in-Some.share.alpha y) o.left
     (c.in-Some-regular_row.ensures.some ∙ ap row_of f.entry) in
-    past_totals c.self.inside.ctx.now c.self.inside.rank c.self.invariant.place.place c.self.inside.reached c.in-Some.share.rank
+    past_totals c.self.inside.ctx.now c.self.inside.rank c.self.invariant.place.place c.self.inside.reached
+    c.in-Some.share.rank
     c.in-Some.share.alpha (label c.self.inside.ctx.now c.in-Some.share.rank) f.next f.value o.undecided
     (subst (λ n. c.self.inside.ctx.now.limit < n) same
-    (subst (λ (k : Key). k.limit < subtraction_weight c.in-Open.tally c.in-Some.share.alpha c.in-Some-regular_row.row.now)
+    (subst (λ (k : Key). k.limit < subtraction_weight c.in-Open.tally c.in-Some.share.alpha
+    c.in-Some-regular_row.row.now)
     c.key.ensures.value (c.in-Err-TooLarge.ensures.too_large.0 (ap Err c.in-Err-TooLarge.field-0-is))))
 
 pub returns-in-Err-TooLarge : goal.returns-in-Err-TooLarge
@@ -180,4 +188,3 @@ returns-in-Err-TooLarge c =
     c.in-Open.is c.in-Some.is c.requires.asked c.requires.entry in
     c.too_large-in-Err-TooLarge.ensures
     ∙ ap₂ (λ (b : Progress) j. progress b.key b.rank j) c.self.view_is (sym (ap (λ (p : Place). p.rank) f.entry))
-

@@ -1,4 +1,4 @@
-use Rattle.std.proofs.Common.{◌≡◌, ℕ, List, sym, ◌∙◌, ap, subst, Option, Err}
+use Rattle.std.proofs.Common.{ℕ, List, ap, subst, Err}
 use Rattle.sp_defs.specs.Power.{FockVector, vector_of}
 use Rattle.sp_core.specs.declared.piece.Key.{Key}
 use Rattle.sp_llt.specs.Search.{IsLargeLift}
@@ -13,7 +13,8 @@ invariant_of-result c = record {
       c.requires.place c.requires.within c.requires.left c.requires.given
       (subst (λ (k : Key). Found c.args.tally.vector (labels c.args.ctx.now) k.limit c.args.reached c.in-Ok.next)
       c.key.ensures.value
-      (subst (λ rs. Found c.args.tally.vector rs c.key.result.limit c.args.reached c.in-Ok.next) c.regulars.ensures.value
+      (subst (λ rs. Found c.args.tally.vector rs c.key.result.limit c.args.reached c.in-Ok.next)
+      c.regulars.ensures.value
       (subst (λ v. Found v c.regulars.result.now c.key.result.limit c.args.reached c.in-Ok.next) c.vector.ensures.value
       c.in-Ok.ensures.found)));
 }

@@ -1,4 +1,4 @@
-use Rattle.std.proofs.Common.{◌≡◌, ℕ, ◌≤◌, length, List, sym, ◌∙◌, subst}
+use Rattle.std.proofs.Common.{◌≤◌, length, sym, ◌∙◌, subst}
 use Rattle.sp_llt.proofs.Labels.{some_labels, few_labels}
 use Rattle.sp_llt.proofs.ctx.Ctx.regulars.Goals as goal
 

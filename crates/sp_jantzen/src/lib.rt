@@ -1,0 +1,12 @@
+//! Jantzen sums: one bead of the abacus goes up and a lower one comes down by as many steps.
+#![tactic(auto)]
+
+mod numbers;
+mod shown;
+mod sum;
+mod term;
+
+pub use sum::jantzen;
+
+#[cfg(test)]
+mod tests;

@@ -1,0 +1,3 @@
+pub mod Jantzen
+pub mod Agreement
+pub mod Dims

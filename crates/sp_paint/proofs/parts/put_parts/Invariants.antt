@@ -1,0 +1,5 @@
+use Rattle.sp_paint.proofs.PartsWritten.{IsWritten}
+use Rattle.sp_paint.proofs.parts.put_parts.Given as goal
+
+abbrev pub invariant-loop-place : goal.invariant-loop-place
+invariant-loop-place l = IsWritten l.notation l.parts l.fn.out.items l.out.items l.place

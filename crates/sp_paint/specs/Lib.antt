@@ -1,0 +1,4 @@
+pub mod State
+pub mod Notation
+pub mod Parts
+pub mod Page
