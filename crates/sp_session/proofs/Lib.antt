@@ -1,3 +1,4 @@
+pub mod Joined
 pub mod Ranking
 pub mod WordRows
 pub mod DominanceTest

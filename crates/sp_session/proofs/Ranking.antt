@@ -1,5 +1,6 @@
 -- The rank of an e-regular partition among those of its degree.
-use Rattle.std.proofs.Common.{◌≡◌, ℕ, zero, suc, ◌<◌, true, List, [], ◌∷◌, length, get_or, ◌∙◌, ap, sym, arith, Contains, Less}
+use Rattle.std.proofs.Common.{◌≡◌, ℕ, zero, suc, ◌<◌, true, List, [], ◌∷◌, length, get_or, ◌∙◌, sym, refl, arith}
+use Rattle.std.proofs.Common.{Contains, Less}
 use Rattle.sp_defs.specs.Partition.{IsPartition, IsRegularOf, Ascending, compare, degree, is_regular, order, regulars}
 use Rattle.sp_shapes.proofs.Listing.{all_regulars, each_regular, regulars_ascend}
 use Rattle.sp_lists.proofs.Places.{all_at}

@@ -1,9 +1,9 @@
 // Answers on rows.
 ghost use Rattle.std.specs.Prelude.{◌≡◌, ◌++◌, ◌≤◌, ◌<◌, ◌^◌, true, length, OnOk, codes};
-ghost use Rattle.sp_defs.specs.Partition.{degree as degree_of, is_regular};
+ghost use Rattle.sp_defs.specs.Partition.{IsPartition, degree as degree_of, is_regular};
 ghost use Rattle.sp_defs.specs.Text.{partition_text};
 ghost use Rattle.sp_llt.specs.Place.{label, labels};
-ghost use Rattle.sp_session.specs.Rows.{row_text};
+ghost use Rattle.sp_session.specs.Rows.{refusal_line, row_text};
 ghost use Rattle.sp_session.specs.Words.{line_of};
 
 use crate::vectors::put_vector;
@@ -31,13 +31,13 @@ pub(crate) fn put_row(
     let entry = entry_alone(alloc, &ctx, rank_of(&ctx, mu))?;
     match entry.row() {
         Ok(row) => put_vector(alloc, row, out),
-        Err(Refused::TooLarge) => out.extend_from_slice(b"error 9 too large\n"),
-        Err(Refused::Stray { at }) => put_stray(alloc, &at, out),
+        Err(why) => put_refusal(alloc, &why, out),
     }
 }
 
 // The rank of an e-regular partition of the context's degree.
 fn rank_of(ctx: &Ctx, mu: &Partition) -> usize
+    requires partition { IsPartition mu.now }
     requires degree { degree_of mu.now ≡ ctx.now.degree }
     requires regular { is_regular ctx.now.e mu.now ≡ true }
     ensures below { result < length (labels ctx.now) }
@@ -49,11 +49,22 @@ fn rank_of(ctx: &Ctx, mu: &Partition) -> usize
     }
 }
 
+// Why there is no row.
+fn put_refusal(alloc: Global, why: &Refused, out: &mut Vec<u8>) -> Result<(), AllocError>
+    ensures { OnOk result (out.new.items ≡ out.old.items ++ refusal_line why.now) }
+{
+    match why {
+        Refused::TooLarge => out.extend_from_slice(b"error 9 too large\n"),
+        Refused::Stray { at } => put_stray(alloc, at, out),
+    }
+}
+
 fn put_stray(alloc: Global, at: &Partition, out: &mut Vec<u8>) -> Result<(), AllocError>
     ensures { OnOk result (out.new.items ≡
         out.old.items ++ line_of (codes "error 10 stray coefficient at " ++ partition_text at.now)) }
 {
     out.extend_from_slice(b"error 10 stray coefficient at ")?;
     at.print(alloc, out)?;
-    out.extend_from_slice(b"\n")
+    out.extend_from_slice(b"\n")?;
+    Ok(())
 }

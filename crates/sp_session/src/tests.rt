@@ -305,3 +305,42 @@ fn other_words_are_refused(rt: HostRuntime) -> Result<(), Fail> {
     }
     Ok(())
 }
+
+#[test]
+fn rows_are_answered(rt: HostRuntime) -> Result<(), Fail> {
+    let cases: [(&'static [&'static str], &'static str, &'static str); 11] = [
+        (&[], "row 2 5\n", "[5] + v[3,1^2] + v^2[1^5]\n"),
+        (&["--limit", "2"], "row 2 5\n", "error 9 too large\n"),
+        (&["--limit=3"], "row 2 5\n", "[5] + v[3,1^2] + v^2[1^5]\n"),
+        (
+            &["--limit", "6"],
+            "row 2 7\n",
+            "[7] + v[5,1^2] + v^2[3,1^4] + v^3[1^7]\n",
+        ),
+        (&["--limit", "5"], "row 2 7\n", "error 9 too large\n"),
+        // an earlier row that it needs is past the limit, though its own weight is 3
+        (&["--limit", "3"], "row 3 9,1\n", "error 9 too large\n"),
+        // a partial ladder vector is past the limit
+        (
+            &["--limit", "1"],
+            "row 4 5,2^2,1^2\n",
+            "error 9 too large\n",
+        ),
+        (&[], "row 2 2^2\n", "error 7 not e-regular\n"),
+        (&[], "row 65 1\n", "error 5 e not in 2..64\n"),
+        (&[], "row 2 21\n", "error 6 degree past 20\n"),
+        (
+            &[],
+            "row 2\nrow x 5\nrow 02 5\n",
+            "error 2 wrong number of words\nerror 3 not a number\nerror 3 not a number\n",
+        ),
+    ];
+    for (words, input, output) in cases {
+        let case = Case {
+            words,
+            ..plain(input, Status::Done, output)
+        };
+        assert!(rt; holds(rt.alloc(), &case)?, "at {input}");
+    }
+    Ok(())
+}
