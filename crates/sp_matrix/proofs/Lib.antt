@@ -1,0 +1,4 @@
+pub mod Backwards
+pub mod Shown
+pub mod Tables
+pub mod Refusals

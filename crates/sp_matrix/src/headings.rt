@@ -19,8 +19,9 @@ pub(crate) fn heading(
 {
     let mut list = Vec::new(alloc);
     for k in (0..partitions.len()).rev() {
-        if scope.has(e, &partitions[k]) {
-            list.push(partitions[k])?;
+        let p = &partitions[k];
+        if scope.has(e, p) {
+            list.push(*p)?;
         }
     }
     Ok(list)
