@@ -2,3 +2,4 @@ pub mod Backwards
 pub mod Shown
 pub mod Tables
 pub mod Refusals
+pub mod Triangular

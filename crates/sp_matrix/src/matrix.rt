@@ -1,10 +1,13 @@
 // Matrices of rows.
 ghost use Rattle.std.specs.Prelude.{◌≡◌, IfOk, OnOk, IsErrOf, map, reverse, None as Nothing, Some as Just};
 ghost use Rattle.sp_llt.specs.Place.{labels};
+ghost use Rattle.sp_dims.specs.Cells.{cell_at};
+ghost use Rattle.sp_dims.specs.Solution.{IsUnitriangular as IsSquareUnitriangular};
 ghost use Rattle.sp_pool.specs.Filled.{IsFilled};
 ghost use Rattle.sp_matrix.specs.Matrix.{columns_of, in_block, matrix, decomposition_of, block_of};
 ghost use Rattle.sp_matrix.specs.Refusal.{refused_column};
 ghost use Rattle.sp_matrix.specs.Scope.{table_of, within};
+ghost use Rattle.sp_matrix.specs.Triangular.{IsUnitriangular};
 ghost use Rattle.sp_matrix.specs.Walk.{row_of, vectors_of};
 
 use crate::cells::cells;
@@ -25,6 +28,8 @@ use std::sync::Arc;
 pub fn crystal(alloc: Global, ctx: &Ctx, rows: &[Arc<Entry>]) -> Result<Grid, RowsFault>
     requires { IsFilled ctx.now rows.now }
     ensures grid { IfOk result (λ grid. grid ≡ matrix ctx.now.e ctx.now.degree) }
+    ensures triangular { IfOk result IsUnitriangular }
+    ensures square { IfOk result (λ grid. IsSquareUnitriangular grid.columns (cell_at grid)) }
     ensures whole { OnOk result
         (refused_column ctx.now.e ctx.now.limit (columns_of ctx.now.e ctx.now.degree) ≡ Nothing) }
     ensures refused { (refused : FirstRefused) → IsErrOf result (RowsFault.Refused refused) →
@@ -39,6 +44,8 @@ pub fn crystal(alloc: Global, ctx: &Ctx, rows: &[Arc<Entry>]) -> Result<Grid, Ro
 pub fn decomposition(alloc: Global, ctx: &Ctx, rows: &[Arc<Entry>]) -> Result<Grid, RowsFault>
     requires { IsFilled ctx.now rows.now }
     ensures grid { IfOk result (λ grid. grid ≡ decomposition_of ctx.now.e ctx.now.degree) }
+    ensures triangular { IfOk result IsUnitriangular }
+    ensures square { IfOk result (λ grid. IsSquareUnitriangular grid.columns (cell_at grid)) }
     ensures whole { OnOk result
         (refused_column ctx.now.e ctx.now.limit (columns_of ctx.now.e ctx.now.degree) ≡ Nothing) }
     ensures refused { (refused : FirstRefused) → IsErrOf result (RowsFault.Refused refused) →
@@ -58,6 +65,8 @@ pub fn block(
 ) -> Result<Grid, RowsFault>
     requires { IsFilled ctx.now rows.now }
     ensures grid { IfOk result (λ grid. grid ≡ block_of ctx.now.e ctx.now.degree core.now) }
+    ensures triangular { IfOk result IsUnitriangular }
+    ensures square { IfOk result (λ grid. IsSquareUnitriangular grid.columns (cell_at grid)) }
     ensures whole { OnOk result (refused_column ctx.now.e ctx.now.limit
         (in_block ctx.now.e core.now (columns_of ctx.now.e ctx.now.degree)) ≡ Nothing) }
     ensures refused { (refused : FirstRefused) → IsErrOf result (RowsFault.Refused refused) →
@@ -77,6 +86,8 @@ fn table(
 ) -> Result<Grid, RowsFault>
     requires { IsFilled ctx.now rows.now }
     ensures grid { IfOk result (λ grid. grid ≡ table_of ctx.now.e ctx.now.degree scope.now form) }
+    ensures triangular { IfOk result IsUnitriangular }
+    ensures square { IfOk result (λ grid. IsSquareUnitriangular grid.columns (cell_at grid)) }
     ensures whole { OnOk result (refused_column ctx.now.e ctx.now.limit
         (within ctx.now.e scope.now (columns_of ctx.now.e ctx.now.degree)) ≡ Nothing) }
     ensures refused { (refused : FirstRefused) → IsErrOf result (RowsFault.Refused refused) →
@@ -100,7 +111,9 @@ fn grid(
 ) -> Result<Grid, AllocError>
     requires { vectors_of rows.now ≡
         map (row_of ctx.now.e ctx.now.degree) (within ctx.now.e scope.now (reverse (labels ctx.now))) }
-    ensures { IfOk result (λ grid. grid ≡ table_of ctx.now.e ctx.now.degree scope.now form) }
+    ensures table { IfOk result (λ grid. grid ≡ table_of ctx.now.e ctx.now.degree scope.now form) }
+    ensures triangular { IfOk result IsUnitriangular }
+    ensures square { IfOk result (λ grid. IsSquareUnitriangular grid.columns (cell_at grid)) }
 {
     let Key { e, degree, .. } = ctx.key();
     let columns = heading(alloc, e, scope, ctx.regulars())?;

@@ -12,3 +12,9 @@ returns-clause-whole c = c.table.ensures.whole
 pub returns-clause-refused : goal.returns-clause-refused
 unfolding within
 returns-clause-refused c = c.table.ensures.refused
+
+pub returns-clause-triangular : goal.returns-clause-triangular
+returns-clause-triangular c = c.table.ensures.triangular
+
+pub returns-clause-square : goal.returns-clause-square
+returns-clause-square c = c.table.ensures.square

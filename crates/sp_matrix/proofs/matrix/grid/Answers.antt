@@ -1,4 +1,4 @@
-use Rattle.std.proofs.Common.{◌≡◌, List, ℕ, map, reverse, sym, ◌∙◌, ap, ap₂, subst, IfOk}
+use Rattle.std.proofs.Common.{◌≡◌, List, ℕ, map, reverse, sym, ◌∙◌, ap, ap₂, subst, IfOk, Result, Ok, Err, ◌≤◌}
 use Rattle.sp_defs.specs.Laurent.{Laurent}
 use Rattle.sp_defs.specs.Power.{FockVector}
 use Rattle.sp_fock.specs.Cells.{rows_of}
@@ -11,6 +11,10 @@ use Rattle.sp_matrix.specs.declared.scope.Form.{Form}
 use Rattle.sp_matrix.specs.Matrix.{columns_of, lines_of}
 use Rattle.sp_matrix.specs.Scope.{within, table_of}
 use Rattle.sp_matrix.specs.Walk.{line_cells, row_of, vectors_of}
+use Rattle.sp_dims.specs.Cells.{cell_at}
+use Rattle.sp_dims.specs.Solution.{IsUnitriangular as IsSquareUnitriangular}
+use Rattle.sp_matrix.specs.Triangular.{IsUnitriangular}
+use Rattle.sp_matrix.proofs.Triangular.{triangular, square}
 use Rattle.sp_matrix.proofs.Tables.{table_is_grid, cells_are}
 use Rattle.sp_matrix.proofs.matrix.grid.Goals as goal
 
@@ -53,8 +57,8 @@ build-requires c =
     (c.deref.ensures.value ∙ c.in_ok-all_of.ensures) c.in_ok-cells.ensures c.deref-2.ensures.value c.requires))
     (table_is_grid key.e key.degree c.args.scope.now c.args.form)
 
-pub returns : goal.returns
-returns c =
+pub returns-clause-table : goal.returns-clause-table
+returns-clause-table c =
     subst (λ t. IfOk c.build.result (λ g. g ≡ t))
     (whole c.args.ctx.now c.key-e.result c.args.scope.now c.args.form c.in_ok-columns.columns.items
     c.in_ok-lines.lines.items c.regulars.result.now c.deref.result.now (rows_of c.in_ok-cells.cells.items)
@@ -62,3 +66,29 @@ returns c =
     c.regulars.ensures.value c.in_ok-lines.ensures (c.deref.ensures.value ∙ c.in_ok-all_of.ensures)
     c.in_ok-cells.ensures c.deref-2.ensures.value c.requires)
     c.build.ensures
+
+-- what holds of the table holds of the grid
+of_table : {E : Type 0} (P : GridValue → Type 0) (t : GridValue) (r : Result GridValue E) → IfOk r (λ g. g ≡ t) →
+    P t → IfOk r P
+of_table P t (Ok g) is h = subst P (sym is) h
+of_table P t (Err e) is h = tt
+
+least : (key told : Key) → told ≡ key → 2 ≤ told.e → 2 ≤ key.e
+least key told same h = subst (λ (q : Key). 2 ≤ q.e) same h
+
+pub returns-clause-triangular : goal.returns-clause-triangular
+returns-clause-triangular c =
+    let key = c.args.ctx.now in
+    of_table IsUnitriangular (table_of key.e key.degree c.args.scope.now c.args.form) c.build.result
+    (returns-clause-table c)
+    (triangular key.e key.degree (least key c.key-e.result c.key-e.ensures.value c.key-e.ensures.held.e_least)
+    c.args.scope.now c.args.form)
+
+pub returns-clause-square : goal.returns-clause-square
+unfolding table_of
+returns-clause-square c =
+    let key = c.args.ctx.now in
+    of_table (λ g. IsSquareUnitriangular g.columns (cell_at g))
+    (table_of key.e key.degree c.args.scope.now c.args.form) c.build.result (returns-clause-table c)
+    (square key.e key.degree (least key c.key-e.result c.key-e.ensures.value c.key-e.ensures.held.e_least)
+    c.args.scope.now c.args.form)
