@@ -7,7 +7,8 @@ use Rattle.sp_lang.specs.declared.fault.LineFault.{LineFault}
 use Rattle.sp_lang.specs.declared.command.Command.TheVariants.{Nothing, Partitions, Regular, Conjugate, Dominates}
 use Rattle.sp_lang.specs.declared.command.Command.TheVariants.{Diagram, Hooks, Content, Core, Combine, Abacus, Good}
 use Rattle.sp_lang.specs.declared.command.Command.TheVariants.{Path, Mullineux, Induce, Ladders, Ladder, Row, Crystal}
-use Rattle.sp_lang.specs.declared.command.Command.TheVariants.{Decomposition, Block, Painter, Jantzen, Schaper, Dim, Dims}
+use Rattle.sp_lang.specs.declared.command.Command.TheVariants.{Decomposition, Block, Painter, Jantzen, Schaper}
+use Rattle.sp_lang.specs.declared.command.Command.TheVariants.{Dim, Dims}
 
 pub record IsE (e : ℕ) : Type 0 where
   pub low : 2 ≤ e

@@ -5,8 +5,8 @@ use std::marker::Model;
 
 /// A name, as a word of a line gives it.
 ///
-/// Contracts see it as the list of its bytes. So two names are equal exactly where their bytes are, wherever these stand
-/// in memory, and what a line says stays one equation.
+/// Contracts see it as the list of its bytes. So two names are equal exactly where their bytes are, wherever these
+/// stand in memory, and what a line says stays one equation.
 #[derive(Debug, Drop)]
 pub struct Name<'a> {
     bytes: &'a [u8],
