@@ -1,11 +1,12 @@
 -- A matrix held against Jantzen sums: what is told of it, line by line.
 -- James and Mathas, 1997: A q-analogue of the Jantzen-Schaper theorem; Ryom-Hansen, 2003: The Schaper formula and the
 -- Lascoux, Leclerc and Thibon algorithm.
-use Rattle.std.specs.Prelude.{◌≡◌, ℕ, Bool, true, false, not, nat_lt, max, List, map, length, find, count_by, ℤ}
+use Rattle.std.specs.Prelude.{◌≡◌, ◌≤◌, ◌<◌, ◌^◌, ℕ, Bool, true, false, not, nat_lt, max, List, map, length, find, count_by, ℤ}
 use Rattle.std.specs.List.{list_any}
 use Rattle.std.specs.Ordering.{int_eq}
 use Rattle.std.specs.declared.result.Result.{Result}
 use Rattle.std.specs.declared.result.Result.TheVariants.{Ok, Err}
+use Rattle.sp_defs.specs.Partition.{IsPartitionOf}
 use Rattle.sp_defs.specs.Laurent.{Laurent, value_at_one, slope_at_one}
 use Rattle.sp_fock_law.specs.Grid.{GridValue, cell_of}
 use Rattle.sp_module_defs.specs.Agreement.{Cells, agrees, agreement_weight, jantzen_entries, slope_size}
@@ -35,6 +36,15 @@ agreement_of e d lines = record {
 }
 
 -- ---- one line, and one cell
+
+-- What a line is compared with, and the limit, are as they have to be.
+pub record IsCalled (e limit : ℕ) (g : GridValue) (p : List ℕ) : Type 0 where
+  pub e_least : 2 ≤ e
+  pub e_most : e ≤ 64
+  pub least : 1 ≤ limit
+  pub most : limit < 2 ^ 127
+  pub all : HasAll e g
+  pub line : IsPartitionOf g.degree p
 
 -- What a line answers.
 abbrev pub LineIs : ℕ → ℕ → Cells → List ℕ → Result Bool CompareFault → Type 0

@@ -4,12 +4,14 @@ ghost use Rattle.std.specs.Prelude.{None as Nothing, Some as Just};
 ghost use Rattle.std.specs.List.{AllByRecursion, AllZip};
 ghost use Rattle.sp_dims.specs.Cells.{cell_at};
 ghost use Rattle.sp_fock_law.specs.Grid.{GridValue};
-ghost use Rattle.sp_matrix.specs.Agreements.{agreement_of, HasAll, is_past, LineIs};
+ghost use Rattle.sp_matrix.specs.Agreements.{agreement_of, HasAll, is_past, IsCalled, LineIs};
 
 use crate::line::line_agrees;
+use rayon::prelude::*;
 use sp_fock::Grid;
 use sp_partition::Partition;
 use std::alloc::{AllocError, Global};
+use std::thread::Threads;
 use thiserror::Error;
 
 /// How far a matrix agrees with Jantzen sums.
@@ -68,6 +70,57 @@ pub fn compare_alone(
 {
     let answers = answers_alone(alloc, e, grid, limit)?;
     summary(e, grid, limit, &answers)
+}
+
+/// Holds each line of a matrix against its Jantzen sum, in as many threads as there are processors.
+///
+/// The answer is that of `compare_alone`.
+pub fn compare(
+    rt: &(impl Threads + Sync),
+    alloc: Global,
+    e: u8,
+    grid: &Grid,
+    limit: u128,
+) -> Result<Agreement, CompareFault>
+    requires e_least { 2 ≤ e }
+    requires e_most { e ≤ 64 }
+    requires least { 1 ≤ limit }
+    requires most { limit < 2 ^ 127 }
+    requires all { HasAll e grid.now }
+    ensures agreement { IfOk result (λ agreement. agreement ≡ agreement_of e (cell_at grid.now) grid.now.lines) }
+    ensures within { OnOk result (is_past e limit (cell_at grid.now) grid.now.lines ≡ false) }
+    ensures too_large { IsErrOf result CompareFault.TooLarge →
+        is_past e limit (cell_at grid.now) grid.now.lines ≡ true }
+{
+    let answers = answers(rt, alloc, e, grid, limit)?;
+    summary(e, grid, limit, &answers)
+}
+
+// The answers of the lines, from many threads.
+fn answers(
+    rt: &(impl Threads + Sync),
+    alloc: Global,
+    e: u8,
+    grid: &Grid,
+    limit: u128,
+) -> Result<Vec<Result<bool, CompareFault>>, AllocError>
+    requires e_least { 2 ≤ e }
+    requires e_most { e ≤ 64 }
+    requires least { 1 ≤ limit }
+    requires most { limit < 2 ^ 127 }
+    requires all { HasAll e grid.now }
+    ensures { IfOk result (λ answers. AllZip (λ p answer. LineIs e limit (cell_at grid.now) p answer)
+        grid.now.lines answers.items) }
+{
+    grid.lines()
+        .par_iter()
+        .map(
+            |p: &Partition| -> Result<bool, CompareFault>
+                requires { IsCalled e limit grid.now p.now }
+                ensures { LineIs e limit (cell_at grid.entry.now) p.now result }
+            { line_agrees(alloc, e, grid, limit, p) },
+        )
+        .collect(rt, alloc)
 }
 
 // The answers of the lines, one after another.

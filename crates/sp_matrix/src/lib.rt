@@ -10,7 +10,7 @@ mod matrix;
 mod products;
 mod scope;
 
-pub use comparison::{Agreement, CompareFault, compare_alone};
+pub use comparison::{Agreement, CompareFault, compare, compare_alone};
 pub use matrix::{block, crystal, decomposition};
 
 #[cfg(test)]
