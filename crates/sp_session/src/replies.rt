@@ -2,10 +2,11 @@
 ghost use Rattle.std.specs.Prelude.{◌≡◌, ◌++◌, ◌≤◌, ◌<◌, ◌^◌, OnOk};
 ghost use Rattle.sp_lang.specs.Given.{IsCommand};
 ghost use Rattle.sp_lang.specs.Reading.{reading};
-ghost use Rattle.sp_session.specs.Reply.{answer_or_fault, answer_to};
+ghost use Rattle.sp_session.specs.Reply.{answer_to, next, reply, state_after};
 
 use crate::abacuses::{put_combined, put_core};
 use crate::diagrams::put_content;
+use crate::easel::{Easel, Remembers};
 use crate::faults::put_fault;
 use crate::orders::{put_conjugate, put_dominance, put_partitions, put_regulars};
 use crate::signatures::{put_good, put_image, put_path};
@@ -15,36 +16,46 @@ use sp_lang::{Command, LineFault, read_command};
 use sp_nodes::{diagram_text, hooks_text};
 use std::alloc::{AllocError, Global};
 
-/// Appends the reply to a line: the answer to its command, or its first fault. An `Err` leaves `out` unspecified.
+/// Appends the reply to a line: the answer to its command, or its first fault. An `Err` leaves `out` and the painters
+/// unspecified.
+#[tactic(auto, unfolding(crate::specs::Reply::reply, crate::specs::Reply::next))]
 pub(crate) fn put_reply(
     alloc: Global,
     limit: u128,
+    easel: &mut Easel,
     line: &[u8],
     out: &mut Vec<u8>,
 ) -> Result<(), AllocError>
     requires least { 1 ≤ limit }
     requires most { limit < 2 ^ 127 }
-    ensures { OnOk result (out.new.items ≡ out.old.items ++ answer_or_fault limit (reading line.now)) }
+    ensures text { OnOk result (out.new.items ≡
+        out.old.items ++ reply limit (⟦<Easel as Remembers>⟧.memory easel.old) line.now) }
+    ensures next { OnOk result (⟦<Easel as Remembers>⟧.memory easel.new ≡
+        next limit (⟦<Easel as Remembers>⟧.memory easel.old) line.now) }
 {
     match read_command(alloc, line) {
-        Ok(command) => put_answer(alloc, limit, &command, out),
+        Ok(command) => put_answer(alloc, limit, easel, &command, out),
         Err(LineFault::Memory) => Err(AllocError),
         Err(fault) => put_fault(fault, out),
     }
 }
 
 // Appends the answer to a command.
-#[tactic(auto, unfolding(crate::specs::Reply::answer_to))]
+#[tactic(auto, unfolding(crate::specs::Reply::answer_to, crate::specs::Reply::state_after))]
 fn put_answer(
     alloc: Global,
     limit: u128,
+    easel: &mut Easel,
     command: &Command,
     out: &mut Vec<u8>,
 ) -> Result<(), AllocError>
     requires least { 1 ≤ limit }
     requires most { limit < 2 ^ 127 }
     requires command { IsCommand command.now }
-    ensures { OnOk result (out.new.items ≡ out.old.items ++ answer_to limit command.now) }
+    ensures text { OnOk result (out.new.items ≡
+        out.old.items ++ answer_to limit (⟦<Easel as Remembers>⟧.memory easel.old) command.now) }
+    ensures next { OnOk result (⟦<Easel as Remembers>⟧.memory easel.new ≡
+        state_after limit (⟦<Easel as Remembers>⟧.memory easel.old) command.now) }
 {
     match command {
         Command::Nothing => Ok(()),
