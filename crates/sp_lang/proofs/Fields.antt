@@ -10,10 +10,11 @@ use Rattle.sp_lang.specs.declared.verb.Place.TheVariants.{E, Degree, Partition, 
 use Rattle.sp_lang.specs.declared.verb.Verb.{Verb}
 use Rattle.sp_lang.specs.declared.verb.Verb.TheVariants.{Partitions, Regular, Conjugate, Dominates, Diagram, Hooks}
 use Rattle.sp_lang.specs.declared.verb.Verb.TheVariants.{Content, Core, Combine, Abacus, Good, Path, Mullineux}
-use Rattle.sp_lang.specs.declared.verb.Verb.TheVariants.{Induce, Ladders, Ladder, Row}
+use Rattle.sp_lang.specs.declared.verb.Verb.TheVariants.{Induce, Ladders, Ladder, Row, Crystal, Decomposition}
+use Rattle.sp_lang.specs.declared.verb.Verb.TheVariants.{Block, Painter, Jantzen, Schaper, Dim, Dims}
 use Rattle.sp_lang.proofs.Faultless.{Faultless}
 use Rattle.sp_lang.proofs.Right.{IsGiven-fits, byte-small, e_at, residue_at, degree_at, partition_at, peer_at, grown_at}
-use Rattle.sp_lang.proofs.Right.{label_at, quotient_at}
+use Rattle.sp_lang.proofs.Right.{label_at, quotient_at, weight-small}
 
 module _ (places : List Place) (ws : List (List ℕ)) (f : Faultless places ws) where
   exact_e : slice_get places 0 ≡ Some E → byte (word_at ws 0) ≡ number (word_at ws 0)
@@ -66,6 +67,14 @@ exact Induce ws f =
 exact Ladders ws f = ap₂ command.Ladders (exact_e _ ws f refl) (exact_label _ ws f 1 refl)
 exact Ladder ws f = ap₂ command.Ladder (exact_e _ ws f refl) (exact_label _ ws f 1 refl)
 exact Row ws f = ap₂ command.Row (exact_e _ ws f refl) (exact_label _ ws f 1 refl)
+exact Crystal ws f = ap₂ command.Crystal (exact_e _ ws f refl) (exact_degree _ ws f 1 refl)
+exact Decomposition ws f = ap₂ command.Decomposition (exact_e _ ws f refl) (exact_degree _ ws f 1 refl)
+exact Block ws f = cc (exact_e _ ws f refl, exact_partition _ ws f 1 refl)
+exact Painter ws f = refl
+exact Jantzen ws f = ap₂ command.Jantzen (exact_e _ ws f refl) (exact_partition _ ws f 1 refl)
+exact Schaper ws f = ap₂ command.Schaper (exact_e _ ws f refl) (exact_degree _ ws f 1 refl)
+exact Dim ws f = ap command.Dim (exact_partition _ ws f 0 refl)
+exact Dims ws f = ap₂ command.Dims (exact_e _ ws f refl) (exact_degree _ ws f 1 refl)
 
 pub fields : (verb : Verb) (ws : List (List ℕ)) → Faultless (places_of verb) ws → IsCommand (command_of verb ws)
 unfolding command_of
@@ -94,3 +103,11 @@ fields Induce ws f =
 fields Ladders ws f = label _ ws f refl refl
 fields Ladder ws f = label _ ws f refl refl
 fields Row ws f = label _ ws f refl refl
+fields Crystal ws f = (e_at _ ws f 0 refl, degree_at _ ws f 1 refl)
+fields Decomposition ws f = (e_at _ ws f 0 refl, degree_at _ ws f 1 refl)
+fields Block ws f = (e_at _ ws f 0 refl, partition_at _ ws f 1 refl, weight-small (word_at ws 2))
+fields Painter ws f = tt
+fields Jantzen ws f = with_e _ ws f refl refl
+fields Schaper ws f = (e_at _ ws f 0 refl, degree_at _ ws f 1 refl)
+fields Dim ws f = partition_at _ ws f 0 refl
+fields Dims ws f = (e_at _ ws f 0 refl, degree_at _ ws f 1 refl)

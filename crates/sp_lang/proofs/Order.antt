@@ -19,11 +19,12 @@ use Rattle.sp_lang.specs.declared.fault.LineFault.TheVariants.{WordCount}
 use Rattle.sp_lang.specs.declared.test.Test.{Test}
 use Rattle.sp_lang.specs.declared.verb.Place.{Place}
 use Rattle.sp_lang.specs.declared.verb.Place.TheVariants.{E, Residue, Count, Degree, Partition, Peer, Grown, Label}
-use Rattle.sp_lang.specs.declared.verb.Place.TheVariants.{Quotient}
+use Rattle.sp_lang.specs.declared.verb.Place.TheVariants.{Quotient, Weight, Name}
 use Rattle.sp_lang.specs.declared.verb.Verb.{Verb}
 use Rattle.sp_lang.specs.declared.verb.Verb.TheVariants.{Partitions, Regular, Conjugate, Dominates, Diagram, Hooks}
 use Rattle.sp_lang.specs.declared.verb.Verb.TheVariants.{Content, Core, Combine, Abacus, Good, Path, Mullineux}
-use Rattle.sp_lang.specs.declared.verb.Verb.TheVariants.{Induce, Ladders, Ladder, Row}
+use Rattle.sp_lang.specs.declared.verb.Verb.TheVariants.{Induce, Ladders, Ladder, Row, Crystal, Decomposition}
+use Rattle.sp_lang.specs.declared.verb.Verb.TheVariants.{Block, Painter, Jantzen, Schaper, Dim, Dims}
 use Rattle.sp_lang.proofs.Right.{byte-small, IsGiven-fits, e_of, given_of}
 
 -- ---- counts that stop at 255
@@ -57,6 +58,8 @@ limit_same m Peer word = refl
 limit_same m Grown word = past_same m (partition_of word)
 limit_same m Label word = refl
 limit_same m Quotient word = refl
+limit_same m Weight word = refl
+limit_same m Name word = refl
 
 -- ---- labels that fit
 
@@ -79,6 +82,8 @@ label_same m e low Grown word within = refl
 label_same m e low Label word within =
     ap (λ t. t && is_fitting_irregular e word) (le-leb 2 e low) ∙ regular_same e (partition_of word) within
 label_same m e low Quotient word within = refl
+label_same m e low Weight word within = refl
+label_same m e low Name word within = refl
 
 labels_same : (m e : ℕ) → 2 ≤ e → (places : List Place) (ws : List (List ℕ)) →
     any_word (passes_limit m) places ws ≡ false →
@@ -121,6 +126,8 @@ peer_right n Peer word h = absurd (cc)
 peer_right n Grown word h = refl
 peer_right n Label word h = refl
 peer_right n Quotient word h = refl
+peer_right n Weight word h = refl
+peer_right n Name word h = refl
 
 residue_right : (e : ℕ) (place : Place) (word : List ℕ) → is_free_of_e place ≡ true →
     is_no_residue e place word ≡ false
@@ -134,6 +141,8 @@ residue_right e Peer word h = refl
 residue_right e Grown word h = refl
 residue_right e Label word h = absurd (cc)
 residue_right e Quotient word h = refl
+residue_right e Weight word h = refl
+residue_right e Name word h = refl
 
 irregular_right : (e : ℕ) (place : Place) (word : List ℕ) → is_free_of_e place ≡ true →
     is_irregular e place word ≡ false
@@ -147,6 +156,8 @@ irregular_right e Peer word h = refl
 irregular_right e Grown word h = refl
 irregular_right e Label word h = absurd (cc)
 irregular_right e Quotient word h = refl
+irregular_right e Weight word h = refl
+irregular_right e Name word h = refl
 
 has_irregular_right : (e : ℕ) (place : Place) (word : List ℕ) → is_free_of_e place ≡ true →
     has_irregular e place word ≡ false
@@ -160,6 +171,8 @@ has_irregular_right e Peer word h = refl
 has_irregular_right e Grown word h = refl
 has_irregular_right e Label word h = absurd (cc)
 has_irregular_right e Quotient word h = refl
+has_irregular_right e Weight word h = refl
+has_irregular_right e Name word h = refl
 
 -- ---- the last three tests
 
@@ -189,6 +202,14 @@ kind Induce = inl (refl, refl)
 kind Ladders = inl (refl, refl)
 kind Ladder = inl (refl, refl)
 kind Row = inl (refl, refl)
+kind Crystal = inl (refl, refl)
+kind Decomposition = inl (refl, refl)
+kind Block = inl (refl, refl)
+kind Painter = inr (inr (refl, refl))
+kind Jantzen = inl (refl, refl)
+kind Schaper = inl (refl, refl)
+kind Dim = inr (inl (refl, refl))
+kind Dims = inl (refl, refl)
 
 -- No word is wrong by the first four tests.
 record Passed (places : List Place) (ws : List (List ℕ)) : Type 0 where

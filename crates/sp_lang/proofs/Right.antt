@@ -1,5 +1,5 @@
 -- What words say that have no fault in their places.
-use Rattle.std.proofs.Common.{◌≡◌, ℕ, ◌+◌, ◌<◌, ◌≤◌, Bool, true, false, not, List, [], ◌∷◌, map, length, refl}
+use Rattle.std.proofs.Common.{◌≡◌, ℕ, ◌+◌, ◌-◌, ◌^◌, ◌<◌, ◌≤◌, Bool, true, false, not, List, [], ◌∷◌, map, length, refl}
 use Rattle.std.proofs.Common.{ap₂, arith, eqb, eqb-true, min, slice_get, nat_le, nat_lt}
 use Rattle.std.proofs.lemmas.Bool.{or_parts, not-false, ltb-false, and_parts, leb-true, leb-false, le-leb, cond-true}
 use Rattle.std.proofs.lemmas.Bool.{true≢false}
@@ -11,7 +11,7 @@ use Rattle.sp_partition.specs.Reading.{number_of, partition_of}
 use Rattle.sp_partition.specs.declared.TheConstants.{CAPACITY, DEGREE_LIMIT}
 use Rattle.sp_partition.proofs.Falls.{reads_partition}
 use Rattle.sp_lang.specs.Words.{pieces}
-use Rattle.sp_lang.specs.Commands.{number, partition, partitions, word_at}
+use Rattle.sp_lang.specs.Commands.{number, partition, partitions, weight, word_at}
 use Rattle.sp_lang.specs.Faults.{says, is_e, is_past, is_no_number, is_no_partition, is_no_e, passes_limit}
 use Rattle.sp_lang.specs.Faults.{is_of_other_degree, is_no_residue, is_irregular, any_word}
 use Rattle.sp_lang.specs.Given.{IsE, IsGiven}
@@ -59,6 +59,12 @@ byte-small word few = least (number word) few
   where
     least : (n : ℕ) → n ≤ 255 → min n 255 ≡ n
     least n few = omega arith
+
+pub weight-small : (word : List ℕ) → weight word < 2 ^ 64
+weight-small word = below (number word)
+  where
+    below : (n : ℕ) → min n (2 ^ 64 - 1) < 2 ^ 64
+    below n = omega arith
 
 all_given : (words : List (List ℕ)) → list_any (λ piece. is_none (partition_of piece)) words ≡ false →
     list_any (is_past 0) words ≡ false → All IsGiven (map partition words)

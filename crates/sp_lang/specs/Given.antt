@@ -1,12 +1,14 @@
 -- What holds of the fields of a command that was read. This project's own.
-use Rattle.std.specs.Prelude.{◌≡◌, ℕ, ◌+◌, ◌<◌, ◌≤◌, true, List, All, Result, Ok}
+use Rattle.std.specs.Prelude.{◌≡◌, ℕ, ◌+◌, ◌^◌, ◌<◌, ◌≤◌, true, List, All, Result, Ok}
 use Rattle.sp_defs.specs.Partition.{degree, is_regular, IsPartition}
 use Rattle.sp_partition.specs.declared.TheConstants.{DEGREE_LIMIT}
 use Rattle.sp_lang.specs.declared.command.Command.{Command}
 use Rattle.sp_lang.specs.declared.fault.LineFault.{LineFault}
 use Rattle.sp_lang.specs.declared.command.Command.TheVariants.{Nothing, Partitions, Regular, Conjugate, Dominates}
 use Rattle.sp_lang.specs.declared.command.Command.TheVariants.{Diagram, Hooks, Content, Core, Combine, Abacus, Good}
-use Rattle.sp_lang.specs.declared.command.Command.TheVariants.{Path, Mullineux, Induce, Ladders, Ladder, Row}
+use Rattle.sp_lang.specs.declared.command.Command.TheVariants.{Path, Mullineux, Induce, Ladders, Ladder, Row, Crystal}
+use Rattle.sp_lang.specs.declared.command.Command.TheVariants.{Decomposition, Block, Painter, Jantzen, Schaper}
+use Rattle.sp_lang.specs.declared.command.Command.TheVariants.{Dim, Dims}
 
 pub record IsE (e : ℕ) : Type 0 where
   pub low : 2 ≤ e
@@ -52,6 +54,14 @@ IsCommand (Induce e i m p) = IsInduction e i m p
 IsCommand (Ladders e mu) = IsLabel e mu
 IsCommand (Ladder e mu) = IsLabel e mu
 IsCommand (Row e mu) = IsLabel e mu
+IsCommand (Crystal e n) = IsE e × (n ≤ DEGREE_LIMIT)
+IsCommand (Decomposition e n) = IsE e × (n ≤ DEGREE_LIMIT)
+IsCommand (Block e core w) = IsE e × IsGiven core × (w < 2 ^ 64)
+IsCommand (Painter name) = Unit {0}
+IsCommand (Jantzen e p) = IsWithE e p
+IsCommand (Schaper e n) = IsE e × (n ≤ DEGREE_LIMIT)
+IsCommand (Dim p) = IsGiven p
+IsCommand (Dims e n) = IsE e × (n ≤ DEGREE_LIMIT)
 
 -- Only a quotient takes memory.
 abbrev pub WantsMemory : Result Command LineFault → Type 0

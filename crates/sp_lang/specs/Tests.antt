@@ -32,7 +32,7 @@ all_fitting word = map fitting (pieces word)
 abbrev pub fitting_command : Verb → List (List ℕ) → Command
 fitting_command verb words =
     command_with (λ k. byte (word_at words k)) (λ k. fitting (word_at words k)) (λ k. all_fitting (word_at words k))
-    verb
+    words verb
 
 -- A label that isn't e-regular, among those that fit.
 abbrev pub is_fitting_irregular : ℕ → List ℕ → Bool

@@ -1,8 +1,9 @@
+use crate::Name;
 use sp_partition::{Items, Partition};
 
 /// A command. Its fields stand in the order of its words.
 #[derive(Debug, Drop)]
-pub enum Command {
+pub enum Command<'a> {
     /// A line without words, or a comment.
     Nothing,
     /// `partitions n`: the partitions of n.
@@ -39,4 +40,20 @@ pub enum Command {
     Ladder(u8, Partition),
     /// `row e mu`: the row of mu.
     Row(u8, Partition),
+    /// `crystal e n`: the decomposition matrix of degree n, in v.
+    Crystal(u8, u8),
+    /// `decomposition e n`: the same at v = 1.
+    Decomposition(u8, u8),
+    /// `block e k w`: the block with the core k and the weight w, at v = 1. A weight past the greatest u64 is that one.
+    Block(u8, Partition, u64),
+    /// `painter name`: the painter of this name paints from then on.
+    Painter(Name<'a>),
+    /// `jantzen e p`: the Jantzen sum of p.
+    Jantzen(u8, Partition),
+    /// `schaper e n`: whether the Jantzen sums of degree n agree with the decomposition matrix.
+    Schaper(u8, u8),
+    /// `dim p`: the dimension of the Specht module of p.
+    Dim(Partition),
+    /// `dims e n`: the dimensions of the Specht and the simple modules of the e-regular partitions of n.
+    Dims(u8, u8),
 }

@@ -3,6 +3,7 @@
 
 mod command;
 mod fault;
+mod name;
 mod read;
 mod test;
 #[cfg(test)]
@@ -13,6 +14,7 @@ mod words;
 
 pub use command::Command;
 pub use fault::LineFault;
+pub use name::Name;
 pub use read::read_command;
 
 /// The greatest number of bytes of a line.

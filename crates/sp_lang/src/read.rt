@@ -10,9 +10,9 @@ ghost use Rattle.sp_lang.specs.Tests.{fails, fitting_command, tests_of as tests_
 
 use crate::test::{Test, any_fails};
 use crate::verb::{Place, VERBS, Verb};
-use crate::word::{all_fitting, byte, fitting};
+use crate::word::{all_fitting, byte, fitting, weight};
 use crate::words::{split_word, word_at, word_count};
-use crate::{Command, LINE_LIMIT, LineFault};
+use crate::{Command, LINE_LIMIT, LineFault, Name};
 use sp_partition::{Items, Partition};
 use std::alloc::{AllocError, Global};
 
@@ -21,7 +21,7 @@ use std::alloc::{AllocError, Global};
 /// The line is without its newline. Faults are looked for in this order: `LongLine`, `BadByte`, `UnknownCommand`,
 /// `WordCount`, `NotNumber`, `BadPartition`, `BadE`, `DegreePast`, `DegreesDiffer`, `BadResidue`, `NotRegular`.
 /// `Memory` comes where the pieces of a quotient find none.
-pub fn read_command(alloc: Global, line: &[u8]) -> Result<Command, LineFault>
+pub fn read_command(alloc: Global, line: &[u8]) -> Result<Command<'_>, LineFault>
     ensures reads { result ≢ Err LineFault.Memory → result ≡ reading line.now }
     ensures command { IfOk result IsCommand }
     ensures memory { result ≡ Err LineFault.Memory → WantsMemory (reading line.now) }
@@ -47,7 +47,7 @@ fn is_allowed(byte: u8) -> bool
     b' ' <= byte && byte <= b'~' || byte == b'\t'
 }
 
-fn said(alloc: Global, line: &[u8]) -> Result<Command, LineFault>
+fn said(alloc: Global, line: &[u8]) -> Result<Command<'_>, LineFault>
     ensures reads { result ≢ Err LineFault.Memory → result ≡ said_by (words line.now) }
     ensures memory { result ≡ Err LineFault.Memory → WantsMemory (said_by (words line.now)) }
 {
@@ -69,7 +69,7 @@ fn verb_of(word: &[u8]) -> Option<Verb>
     VERBS.iter().find(|verb| verb.name() == word).copied()
 }
 
-fn said_behind(alloc: Global, verb: Verb, rest: &[u8]) -> Result<Command, LineFault>
+fn said_behind(alloc: Global, verb: Verb, rest: &[u8]) -> Result<Command<'_>, LineFault>
     ensures reads { result ≢ Err LineFault.Memory → result ≡ said_behind_by (Some verb) (words rest.now) }
     ensures memory { result ≡ Err LineFault.Memory → WantsMemory (said_behind_by (Some verb) (words rest.now)) }
 {
@@ -131,7 +131,7 @@ fn first_of(tests: &[(Test, LineFault)], places: &[Place], text: &[u8]) -> Optio
 }
 
 // The command, where its words have no fault.
-fn command(alloc: Global, verb: Verb, text: &[u8]) -> Result<Command, AllocError>
+fn command(alloc: Global, verb: Verb, text: &[u8]) -> Result<Command<'_>, AllocError>
     ensures exact { IfOk result (λ command. command ≡ fitting_command verb (words text.now)) }
     ensures memory { OnErr result (verb ≡ Verb.Combine) }
 {
@@ -158,5 +158,13 @@ fn command(alloc: Global, verb: Verb, text: &[u8]) -> Result<Command, AllocError
         Verb::Ladders => Command::Ladders(number(0), partition(1)),
         Verb::Ladder => Command::Ladder(number(0), partition(1)),
         Verb::Row => Command::Row(number(0), partition(1)),
+        Verb::Crystal => Command::Crystal(number(0), number(1)),
+        Verb::Decomposition => Command::Decomposition(number(0), number(1)),
+        Verb::Block => Command::Block(number(0), partition(1), weight(word_at(text, 2))),
+        Verb::Painter => Command::Painter(Name::of(word_at(text, 0))),
+        Verb::Jantzen => Command::Jantzen(number(0), partition(1)),
+        Verb::Schaper => Command::Schaper(number(0), number(1)),
+        Verb::Dim => Command::Dim(partition(0)),
+        Verb::Dims => Command::Dims(number(0), number(1)),
     })
 }

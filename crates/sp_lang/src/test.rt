@@ -61,7 +61,9 @@ fn is_no_number(place: Place, word: &[u8]) -> bool
     ensures { result ≡ no_number place word.now }
 {
     match place {
-        Place::E | Place::Residue | Place::Count | Place::Degree => number(word).is_none(),
+        Place::E | Place::Residue | Place::Count | Place::Degree | Place::Weight => {
+            number(word).is_none()
+        }
         _ => false,
     }
 }

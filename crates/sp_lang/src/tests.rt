@@ -2,31 +2,43 @@ use crate::{Command, LineFault, read_command};
 use sp_partition::Partition;
 use std::test::Fail;
 
-/// The word, the numbers and the partitions of a command.
-fn shown(command: &Command) -> (&'static str, &[u8], [u8; 3]) {
+/// The word of a command, its first partition or its name, and its numbers.
+fn shown<'a>(command: &'a Command<'a>) -> (&'static str, &'a [u8], [u64; 3]) {
     match command {
         Command::Nothing => ("nothing", &[], [0; 3]),
-        Command::Partitions(n) => ("partitions", &[], [*n, 0, 0]),
-        Command::Regular(e, n) => ("regular", &[], [*e, *n, 0]),
+        Command::Partitions(n) => ("partitions", &[], [u64::from(*n), 0, 0]),
+        Command::Regular(e, n) => ("regular", &[], [u64::from(*e), u64::from(*n), 0]),
         Command::Conjugate(p) => ("conjugate", p.parts(), [0; 3]),
-        Command::Dominates(p, q) => ("dominates", p.parts(), [q.degree(), 0, 0]),
-        Command::Diagram(e, p) => ("diagram", p.parts(), [*e, 0, 0]),
+        Command::Dominates(p, q) => ("dominates", p.parts(), [u64::from(q.degree()), 0, 0]),
+        Command::Diagram(e, p) => ("diagram", p.parts(), [u64::from(*e), 0, 0]),
         Command::Hooks(p) => ("hooks", p.parts(), [0; 3]),
-        Command::Content(e, p) => ("content", p.parts(), [*e, 0, 0]),
-        Command::Core(e, p) => ("core", p.parts(), [*e, 0, 0]),
+        Command::Content(e, p) => ("content", p.parts(), [u64::from(*e), 0, 0]),
+        Command::Core(e, p) => ("core", p.parts(), [u64::from(*e), 0, 0]),
         Command::Combine(e, p, quotient) => (
             "combine",
             p.parts(),
-            [*e, sum(quotient.as_slice()), 0],
+            [u64::from(*e), u64::from(sum(quotient.as_slice())), 0],
         ),
-        Command::Abacus(e, p) => ("abacus", p.parts(), [*e, 0, 0]),
-        Command::Good(e, p) => ("good", p.parts(), [*e, 0, 0]),
-        Command::Path(e, mu) => ("path", mu.parts(), [*e, 0, 0]),
-        Command::Mullineux(e, mu) => ("mullineux", mu.parts(), [*e, 0, 0]),
-        Command::Induce(e, i, m, p) => ("induce", p.parts(), [*e, *i, *m]),
-        Command::Ladders(e, mu) => ("ladders", mu.parts(), [*e, 0, 0]),
-        Command::Ladder(e, mu) => ("ladder", mu.parts(), [*e, 0, 0]),
-        Command::Row(e, mu) => ("row", mu.parts(), [*e, 0, 0]),
+        Command::Abacus(e, p) => ("abacus", p.parts(), [u64::from(*e), 0, 0]),
+        Command::Good(e, p) => ("good", p.parts(), [u64::from(*e), 0, 0]),
+        Command::Path(e, mu) => ("path", mu.parts(), [u64::from(*e), 0, 0]),
+        Command::Mullineux(e, mu) => ("mullineux", mu.parts(), [u64::from(*e), 0, 0]),
+        Command::Induce(e, i, m, p) => (
+            "induce",
+            p.parts(),
+            [u64::from(*e), u64::from(*i), u64::from(*m)],
+        ),
+        Command::Ladders(e, mu) => ("ladders", mu.parts(), [u64::from(*e), 0, 0]),
+        Command::Ladder(e, mu) => ("ladder", mu.parts(), [u64::from(*e), 0, 0]),
+        Command::Row(e, mu) => ("row", mu.parts(), [u64::from(*e), 0, 0]),
+        Command::Crystal(e, n) => ("crystal", &[], [u64::from(*e), u64::from(*n), 0]),
+        Command::Decomposition(e, n) => ("decomposition", &[], [u64::from(*e), u64::from(*n), 0]),
+        Command::Block(e, kappa, w) => ("block", kappa.parts(), [u64::from(*e), *w, 0]),
+        Command::Painter(name) => ("painter", name.as_bytes(), [0; 3]),
+        Command::Jantzen(e, p) => ("jantzen", p.parts(), [u64::from(*e), 0, 0]),
+        Command::Schaper(e, n) => ("schaper", &[], [u64::from(*e), u64::from(*n), 0]),
+        Command::Dim(p) => ("dim", p.parts(), [0; 3]),
+        Command::Dims(e, n) => ("dims", &[], [u64::from(*e), u64::from(*n), 0]),
     }
 }
 
@@ -41,7 +53,7 @@ fn sum(quotient: &[Partition]) -> u8 {
 
 #[test]
 fn lines_and_their_commands(rt: HostRuntime) -> Result<(), Fail> {
-    let cases: [(&[u8], &str, &[u8], [u8; 3]); 27] = [
+    let cases: [(&[u8], &str, &[u8], [u64; 3]); 43] = [
         (b"", "nothing", &[], [0; 3]),
         (b" \t ", "nothing", &[], [0; 3]),
         (b"# comment", "nothing", &[], [0; 3]),
@@ -74,6 +86,42 @@ fn lines_and_their_commands(rt: HostRuntime) -> Result<(), Fail> {
         (b"ladder 3 4^2,1", "ladder", &[4, 4, 1], [3, 0, 0]),
         (b"\trow \t 2  3,2 ", "row", &[3, 2], [2, 0, 0]),
         (b"row 2 20", "row", &[20], [2, 0, 0]),
+        (b"crystal 2 4", "crystal", &[], [2, 4, 0]),
+        (b"decomposition 3 20", "decomposition", &[], [3, 20, 0]),
+        (b"block 2 2,1 300", "block", &[2, 1], [2, 300, 0]),
+        (
+            b"block 2 - 18446744073709551614",
+            "block",
+            &[],
+            [2, u64::MAX - 1, 0],
+        ),
+        (
+            b"block 2 - 18446744073709551615",
+            "block",
+            &[],
+            [2, u64::MAX, 0],
+        ),
+        (
+            b"block 2 1 18446744073709551616",
+            "block",
+            &[1],
+            [2, u64::MAX, 0],
+        ),
+        (
+            b"block 2 1 99999999999999999999999",
+            "block",
+            &[1],
+            [2, u64::MAX, 0],
+        ),
+        (b"painter tex", "painter", b"tex", [0; 3]),
+        (b"painter\t # ", "painter", b"#", [0; 3]),
+        (b"painter 1,3", "painter", b"1,3", [0; 3]),
+        (b"jantzen 2 2^2", "jantzen", &[2, 2], [2, 0, 0]),
+        (b"schaper 64 0", "schaper", &[], [64, 0, 0]),
+        (b"dim (3,1,1)", "dim", &[3, 1, 1], [0; 3]),
+        (b"dim -", "dim", &[], [0; 3]),
+        (b"dims 5 9", "dims", &[], [5, 9, 0]),
+        (b"dims 2 0", "dims", &[], [2, 0, 0]),
     ];
     for (line, word, parts, numbers) in cases {
         let outcome = read_command(rt.alloc(), line);
@@ -90,7 +138,7 @@ fn lines_and_their_commands(rt: HostRuntime) -> Result<(), Fail> {
 
 #[test]
 fn lines_and_their_faults(rt: HostRuntime) -> Result<(), Fail> {
-    let cases: [(&[u8], LineFault); 44] = [
+    let cases: [(&[u8], LineFault); 67] = [
         (b"frob 1", LineFault::UnknownCommand),
         (b"Row 2 1", LineFault::UnknownCommand),
         (b"rows", LineFault::UnknownCommand),
@@ -135,6 +183,29 @@ fn lines_and_their_faults(rt: HostRuntime) -> Result<(), Fail> {
         (b"row 2 2^2", LineFault::NotRegular),
         (b"row 2 1\r", LineFault::BadByte),
         (b"# \x7f", LineFault::BadByte),
+        (b"Dim 1", LineFault::UnknownCommand),
+        (b"check", LineFault::UnknownCommand),
+        (b"certificate 2 3", LineFault::UnknownCommand),
+        (b"crystal 2", LineFault::WordCount),
+        (b"painter", LineFault::WordCount),
+        (b"painter a b", LineFault::WordCount),
+        (b"block 2 1", LineFault::WordCount),
+        (b"dim 2 1", LineFault::WordCount),
+        (b"block 2 1 x", LineFault::NotNumber),
+        (b"block 2 1 01", LineFault::NotNumber),
+        (b"block 2 0 x", LineFault::NotNumber),
+        (b"schaper x 1", LineFault::NotNumber),
+        (b"block 2 1,3 1", LineFault::BadPartition),
+        (b"jantzen 2 1,3", LineFault::BadPartition),
+        (b"block 65 1 1", LineFault::BadE),
+        (b"decomposition 65 21", LineFault::BadE),
+        (b"jantzen 1 21", LineFault::BadE),
+        (b"block 2 21 1", LineFault::DegreePast),
+        (b"crystal 2 21", LineFault::DegreePast),
+        (b"schaper 2 256", LineFault::DegreePast),
+        (b"jantzen 2 21", LineFault::DegreePast),
+        (b"dim 21", LineFault::DegreePast),
+        (b"painter \x80", LineFault::BadByte),
     ];
     for (line, fault) in cases {
         let outcome = read_command(rt.alloc(), line).err();

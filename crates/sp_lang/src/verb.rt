@@ -22,6 +22,14 @@ pub enum Verb {
     Ladders,
     Ladder,
     Row,
+    Crystal,
+    Decomposition,
+    Block,
+    Painter,
+    Jantzen,
+    Schaper,
+    Dim,
+    Dims,
 }
 
 /// What a word of a command stands for.
@@ -45,9 +53,13 @@ pub enum Place {
     Label,
     /// Partitions with bars between.
     Quotient,
+    /// The weight of a block.
+    Weight,
+    /// The name of a painter.
+    Name,
 }
 
-pub(crate) const VERBS: [Verb; 17] = [
+pub(crate) const VERBS: [Verb; 25] = [
     Verb::Partitions,
     Verb::Regular,
     Verb::Conjugate,
@@ -65,6 +77,14 @@ pub(crate) const VERBS: [Verb; 17] = [
     Verb::Ladders,
     Verb::Ladder,
     Verb::Row,
+    Verb::Crystal,
+    Verb::Decomposition,
+    Verb::Block,
+    Verb::Painter,
+    Verb::Jantzen,
+    Verb::Schaper,
+    Verb::Dim,
+    Verb::Dims,
 ];
 
 impl Verb {
@@ -90,6 +110,14 @@ impl Verb {
             Verb::Ladders => b"ladders",
             Verb::Ladder => b"ladder",
             Verb::Row => b"row",
+            Verb::Crystal => b"crystal",
+            Verb::Decomposition => b"decomposition",
+            Verb::Block => b"block",
+            Verb::Painter => b"painter",
+            Verb::Jantzen => b"jantzen",
+            Verb::Schaper => b"schaper",
+            Verb::Dim => b"dim",
+            Verb::Dims => b"dims",
         }
     }
 
@@ -115,6 +143,14 @@ impl Verb {
             Verb::Ladders => &[Place::E, Place::Label],
             Verb::Ladder => &[Place::E, Place::Label],
             Verb::Row => &[Place::E, Place::Label],
+            Verb::Crystal => &[Place::E, Place::Degree],
+            Verb::Decomposition => &[Place::E, Place::Degree],
+            Verb::Block => &[Place::E, Place::Partition, Place::Weight],
+            Verb::Painter => &[Place::Name],
+            Verb::Jantzen => &[Place::E, Place::Partition],
+            Verb::Schaper => &[Place::E, Place::Degree],
+            Verb::Dim => &[Place::Partition],
+            Verb::Dims => &[Place::E, Place::Degree],
         }
     }
 }

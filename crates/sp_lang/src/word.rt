@@ -1,5 +1,5 @@
 // What a word says.
-ghost use Rattle.std.specs.Prelude.{◌≡◌, ◌==◌, ◌≤◌, length, min, not, IfOk, IsTrue, is_none};
+ghost use Rattle.std.specs.Prelude.{◌≡◌, ◌==◌, ◌≤◌, ◌-◌, ◌^◌, length, min, not, IfOk, IsTrue, is_none};
 ghost use Rattle.std.specs.List.{list_any, list_all};
 ghost use Rattle.std.specs.Option.{option_map};
 ghost use Rattle.sp_defs.specs.Partition.{degree};
@@ -7,6 +7,7 @@ ghost use Rattle.sp_partition.specs.Reading.{number_of, is_number as number_word
 ghost use Rattle.std.specs.Str.Parse.{digits_value};
 ghost use Rattle.std.specs.Char.{is_digit};
 ghost use Rattle.sp_lang.specs.Words.{pieces};
+ghost use Rattle.sp_lang.specs.Commands.{weight as weight_of};
 ghost use Rattle.sp_lang.specs.Faults.{is_past as past, says};
 ghost use Rattle.sp_lang.specs.Tests.{byte as byte_of, fitting as fitting_of, all_fitting as all_fitting_of};
 ghost use Rattle.sp_lang.specs.Tests.{is_fitting_irregular};
@@ -58,6 +59,27 @@ pub(crate) fn byte(word: &[u8]) -> u8
     ensures { result ≡ byte_of word.now }
 {
     number(word).unwrap_or(0)
+}
+
+/// The number that a word says, or the greatest u64 where it is greater, or 0 where the word says none.
+pub(crate) fn weight(word: &[u8]) -> u64
+    ensures { result ≡ weight_of word.now }
+{
+    if is_number(word) { long_value(word) } else { 0 }
+}
+
+// What the digits count, or the greatest u64 where that is greater.
+fn long_value(digits: &[u8]) -> u64
+    requires { IsTrue (number_word digits.now) }
+    ensures { result ≡ min (digits_value 10 digits.now) (2 ^ 64 - 1) }
+{
+    let mut value = 0u64;
+    for digit in digits {
+        value = value
+            .saturating_mul(10)
+            .saturating_add(u64::from(*digit - b'0'));
+    }
+    value
 }
 
 /// Whether the word says no partition.
