@@ -3,4 +3,4 @@ pub mod DominanceTest
 pub mod Finding
 pub mod Images
 pub mod Induced
-pub mod Pages
+pub mod Painted

@@ -84,7 +84,12 @@ pub(crate) fn put_ladder_vector(
     }
 }
 
-fn put_vector(alloc: Global, vector: &Vector, out: &mut Vec<u8>) -> Result<(), AllocError>
+/// A vector as a line.
+pub(crate) fn put_vector(
+    alloc: Global,
+    vector: &Vector,
+    out: &mut Vec<u8>,
+) -> Result<(), AllocError>
     ensures { OnOk result (out.new.items ≡ out.old.items ++ line_of (vector_text vector.now.entries)) }
 {
     vector.print(alloc, out)?;

@@ -1,5 +1,5 @@
 use Rattle.std.proofs.Common.{◌++◌, ◌∙◌, ap}
-use Rattle.sp_session.proofs.Pages.{page_at, painters_with}
+use Rattle.sp_session.proofs.Painted.{page_at, painters_with}
 use Rattle.sp_session.proofs.WordRows.{on_ok}
 use Rattle.sp_session.proofs.easel.put_page.Goals as goal
 
