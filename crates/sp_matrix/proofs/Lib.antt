@@ -1,0 +1,5 @@
+pub mod Backwards
+pub mod Shown
+pub mod Tables
+pub mod Refusals
+pub mod Triangular

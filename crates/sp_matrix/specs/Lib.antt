@@ -1,0 +1,5 @@
+pub mod Matrix
+pub mod Refusal
+pub mod Triangular
+pub mod Scope
+pub mod Walk

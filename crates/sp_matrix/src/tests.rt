@@ -1,0 +1,103 @@
+//! Worked matrices.
+ghost use Rattle.std.specs.Prelude.{◌≤◌, ◌<◌, ◌^◌};
+
+use crate::{block, crystal, decomposition};
+use sp_fock::Grid;
+use sp_llt::{Ctx, Refused, RowsFault};
+use sp_partition::Partition;
+use sp_pool::fill_alone;
+use std::alloc::Global;
+use std::test::Fail;
+
+/// Which matrix is made.
+enum Kind {
+    Crystal,
+    Decomposition,
+    Block(Partition),
+}
+
+/// The matrix as text, line by line, or the column that refused it.
+fn text(alloc: Global, kind: Kind, e: u8, degree: u8, limit: u128) -> Result<Vec<u8>, Fail>
+    requires e_least { 2 ≤ e }
+    requires e_most { e ≤ 64 }
+    requires small { degree ≤ 20 }
+    requires least { 1 ≤ limit }
+    requires most { limit < 2 ^ 127 }
+{
+    let ctx = Ctx::open(alloc, e, degree, limit)?;
+    let rows = fill_alone(alloc, &ctx)?;
+    let made = match kind {
+        Kind::Crystal => crystal(alloc, &ctx, &rows),
+        Kind::Decomposition => decomposition(alloc, &ctx, &rows),
+        Kind::Block(core) => block(alloc, &ctx, &rows, &core),
+    };
+    let mut out = Vec::new(alloc);
+    match made {
+        Ok(grid) => put_grid(alloc, &grid, &mut out)?,
+        Err(RowsFault::Refused(refused)) => {
+            match refused.why {
+                Refused::TooLarge => out.extend_from_slice(b"too large at ")?,
+                Refused::Stray { .. } => out.extend_from_slice(b"stray at ")?,
+            }
+            refused.mu.print(alloc, &mut out)?;
+        }
+        Err(RowsFault::Memory) => out.extend_from_slice(b"memory")?,
+    }
+    Ok(out)
+}
+
+fn put_grid(alloc: Global, grid: &Grid, out: &mut Vec<u8>) -> Result<(), Fail> {
+    for column in grid.columns() {
+        out.extend_from_slice(b" ")?;
+        column.print(alloc, out)?;
+    }
+    let lines = grid.lines();
+    for line in 0..lines.len() {
+        out.extend_from_slice(b"; ")?;
+        lines[line].print(alloc, out)?;
+        for cell in grid.row(line) {
+            out.extend_from_slice(b" ")?;
+            cell.print(alloc, out)?;
+        }
+    }
+    Ok(())
+}
+
+#[test]
+fn the_matrix_of_degree_five(rt: HostRuntime) -> Result<(), Fail> {
+    let alloc = rt.alloc();
+    let whole = b" 5 4,1 3,2; 5 1 0 0; 4,1 0 1 0; 3,2 0 0 1; 3,1^2 v 0 v; 2^2,1 0 0 v^2; 2,1^3 0 v 0; 1^5 v^2 0 0"
+        .as_slice();
+    assert_eq!(rt; text(alloc, Kind::Crystal, 2, 5, 3)?.as_slice(), whole);
+    let refused = b"too large at 5".as_slice();
+    assert_eq!(rt; text(alloc, Kind::Crystal, 2, 5, 2)?.as_slice(), refused);
+    assert_eq!(rt; text(alloc, Kind::Crystal, 2, 0, 1)?.as_slice(), b" -; - 1".as_slice());
+    Ok(())
+}
+
+#[test]
+fn values_at_one(rt: HostRuntime) -> Result<(), Fail> {
+    let alloc = rt.alloc();
+    let at_two = b" 4 3,1; 4 1 0; 3,1 1 1; 2^2 0 1; 2,1^2 1 1; 1^4 1 0".as_slice();
+    assert_eq!(rt; text(alloc, Kind::Decomposition, 2, 4, 1_000)?.as_slice(), at_two);
+    let at_nine = b" 4 3,1 2^2 2,1^2 1^4; 4 1 0 0 0 0; 3,1 0 1 0 0 0; 2^2 0 0 1 0 0; 2,1^2 0 0 0 1 0; 1^4 0 0 0 0 1"
+        .as_slice();
+    assert_eq!(rt; text(alloc, Kind::Decomposition, 9, 4, 1_000)?.as_slice(), at_nine);
+    Ok(())
+}
+
+#[test]
+fn blocks_have_their_own_columns(rt: HostRuntime) -> Result<(), Fail> {
+    let alloc = rt.alloc();
+    let of_one = b" 4 2^2; 4 1 0; 2^2 1 1; 1^4 0 1".as_slice();
+    let core = Partition::from_parts(&[1])?;
+    assert_eq!(rt; text(alloc, Kind::Block(core), 3, 4, 1_000)?.as_slice(), of_one);
+    // at this limit the column 5, which is in the other block, is refused
+    let four_one = b" 4,1; 4,1 1; 2,1^3 1".as_slice();
+    let core = Partition::from_parts(&[2, 1])?;
+    assert_eq!(rt; text(alloc, Kind::Block(core), 2, 5, 2)?.as_slice(), four_one);
+    let core = Partition::from_parts(&[1])?;
+    let refused = b"too large at 5".as_slice();
+    assert_eq!(rt; text(alloc, Kind::Block(core), 2, 5, 2)?.as_slice(), refused);
+    Ok(())
+}
