@@ -10,7 +10,7 @@ use crate::easel::{Easel, Remembers};
 use crate::faults::put_fault;
 use crate::modules::{put_dim, put_jantzen};
 use crate::orders::{put_conjugate, put_dominance, put_partitions, put_regulars};
-use crate::pages::put_choice;
+use crate::pages::{put_block, put_choice, put_crystal, put_decomposition};
 use crate::signatures::{put_good, put_image, put_path};
 use crate::vectors::{put_induced, put_ladder_vector, put_ladders};
 use sp_abacus::abacus_text;
@@ -80,13 +80,13 @@ fn put_answer(
         Command::Ladders(e, mu) => put_ladders(alloc, *e, mu, out),
         Command::Ladder(e, mu) => put_ladder_vector(alloc, limit, *e, mu, out),
         Command::Painter(name) => put_choice(easel, name, out),
+        Command::Crystal(e, n) => put_crystal(alloc, limit, easel, *e, *n, out),
+        Command::Decomposition(e, n) => put_decomposition(alloc, limit, easel, *e, *n, out),
+        Command::Block(e, kappa, w) => put_block(alloc, limit, easel, *e, kappa, *w, out),
         Command::Jantzen(e, p) => put_jantzen(alloc, *e, p, out),
         Command::Dim(p) => put_dim(alloc, p, out),
         // not built yet
         Command::Row(_, _)
-        | Command::Crystal(_, _)
-        | Command::Decomposition(_, _)
-        | Command::Block(_, _, _)
         | Command::Schaper(_, _)
         | Command::Dims(_, _) => put_fault(LineFault::UnknownCommand, out),
     }
