@@ -3,3 +3,5 @@ pub mod Shown
 pub mod Tables
 pub mod Refusals
 pub mod Triangular
+pub mod Folding
+pub mod Lined

@@ -64,7 +64,7 @@ cell_found n columns lines d lambda mu l m =
 
 -- ---- what is within a scope
 
-occurs_reverse : {X : Type 0} (x : X) (xs : List X) → Occurs x xs → Occurs x (reverse xs)
+pub occurs_reverse : {X : Type 0} (x : X) (xs : List X) → Occurs x xs → Occurs x (reverse xs)
 occurs_reverse x [] o = absurd o
 occurs_reverse x (y ∷ ys) (inl same) =
     subst (Occurs x) (sym (reverse-append (y ∷ []) ys)) (occurs_right x (reverse ys) (y ∷ []) (inl same))

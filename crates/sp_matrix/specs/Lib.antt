@@ -3,3 +3,4 @@ pub mod Refusal
 pub mod Triangular
 pub mod Scope
 pub mod Walk
+pub mod Agreements

@@ -3,10 +3,14 @@
 
 mod cells;
 mod columns;
+mod comparison;
 mod headings;
+mod line;
 mod matrix;
+mod products;
 mod scope;
 
+pub use comparison::{Agreement, CompareFault, compare_alone};
 pub use matrix::{block, crystal, decomposition};
 
 #[cfg(test)]

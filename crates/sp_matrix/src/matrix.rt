@@ -71,7 +71,7 @@ pub fn block(
         (in_block ctx.now.e core.now (columns_of ctx.now.e ctx.now.degree)) ≡ Nothing) }
     ensures refused { (refused : FirstRefused) → IsErrOf result (RowsFault.Refused refused) →
         refused_column ctx.now.e ctx.now.limit
-            (in_block ctx.now.e core.now (columns_of ctx.now.e ctx.now.degree)) ≡ Just refused }
+        (in_block ctx.now.e core.now (columns_of ctx.now.e ctx.now.degree)) ≡ Just refused }
 {
     table(alloc, ctx, rows, &Scope::Block(*core), Form::Constant)
 }
@@ -92,7 +92,7 @@ fn table(
         (within ctx.now.e scope.now (columns_of ctx.now.e ctx.now.degree)) ≡ Nothing) }
     ensures refused { (refused : FirstRefused) → IsErrOf result (RowsFault.Refused refused) →
         refused_column ctx.now.e ctx.now.limit
-            (within ctx.now.e scope.now (columns_of ctx.now.e ctx.now.degree)) ≡ Just refused }
+        (within ctx.now.e scope.now (columns_of ctx.now.e ctx.now.degree)) ≡ Just refused }
 {
     let rows = column_rows(alloc, ctx, rows, scope)?;
     match grid(alloc, ctx, &rows, scope, form) {

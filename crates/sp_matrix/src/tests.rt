@@ -10,6 +10,7 @@ use std::alloc::Global;
 use std::test::Fail;
 
 /// Which matrix is made.
+#[derive(Drop)]
 enum Kind {
     Crystal,
     Decomposition,
@@ -66,12 +67,15 @@ fn put_grid(alloc: Global, grid: &Grid, out: &mut Vec<u8>) -> Result<(), Fail> {
 #[test]
 fn the_matrix_of_degree_five(rt: HostRuntime) -> Result<(), Fail> {
     let alloc = rt.alloc();
-    let whole = b" 5 4,1 3,2; 5 1 0 0; 4,1 0 1 0; 3,2 0 0 1; 3,1^2 v 0 v; 2^2,1 0 0 v^2; 2,1^3 0 v 0; 1^5 v^2 0 0"
-        .as_slice();
+    let whole =
+        b" 5 4,1 3,2; 5 1 0 0; 4,1 0 1 0; 3,2 0 0 1; 3,1^2 v 0 v; 2^2,1 0 0 v^2; 2,1^3 0 v 0; 1^5 v^2 0 0".as_slice();
     assert_eq!(rt; text(alloc, Kind::Crystal, 2, 5, 3)?.as_slice(), whole);
     let refused = b"too large at 5".as_slice();
     assert_eq!(rt; text(alloc, Kind::Crystal, 2, 5, 2)?.as_slice(), refused);
-    assert_eq!(rt; text(alloc, Kind::Crystal, 2, 0, 1)?.as_slice(), b" -; - 1".as_slice());
+    assert_eq!(rt;
+        text(alloc, Kind::Crystal, 2, 0, 1)?.as_slice(),
+        b" -; - 1".as_slice()
+    );
     Ok(())
 }
 
@@ -79,10 +83,16 @@ fn the_matrix_of_degree_five(rt: HostRuntime) -> Result<(), Fail> {
 fn values_at_one(rt: HostRuntime) -> Result<(), Fail> {
     let alloc = rt.alloc();
     let at_two = b" 4 3,1; 4 1 0; 3,1 1 1; 2^2 0 1; 2,1^2 1 1; 1^4 1 0".as_slice();
-    assert_eq!(rt; text(alloc, Kind::Decomposition, 2, 4, 1_000)?.as_slice(), at_two);
-    let at_nine = b" 4 3,1 2^2 2,1^2 1^4; 4 1 0 0 0 0; 3,1 0 1 0 0 0; 2^2 0 0 1 0 0; 2,1^2 0 0 0 1 0; 1^4 0 0 0 0 1"
-        .as_slice();
-    assert_eq!(rt; text(alloc, Kind::Decomposition, 9, 4, 1_000)?.as_slice(), at_nine);
+    assert_eq!(rt;
+        text(alloc, Kind::Decomposition, 2, 4, 1_000)?.as_slice(),
+        at_two
+    );
+    let at_nine =
+        b" 4 3,1 2^2 2,1^2 1^4; 4 1 0 0 0 0; 3,1 0 1 0 0 0; 2^2 0 0 1 0 0; 2,1^2 0 0 0 1 0; 1^4 0 0 0 0 1".as_slice();
+    assert_eq!(rt;
+        text(alloc, Kind::Decomposition, 9, 4, 1_000)?.as_slice(),
+        at_nine
+    );
     Ok(())
 }
 
@@ -91,13 +101,22 @@ fn blocks_have_their_own_columns(rt: HostRuntime) -> Result<(), Fail> {
     let alloc = rt.alloc();
     let of_one = b" 4 2^2; 4 1 0; 2^2 1 1; 1^4 0 1".as_slice();
     let core = Partition::from_parts(&[1])?;
-    assert_eq!(rt; text(alloc, Kind::Block(core), 3, 4, 1_000)?.as_slice(), of_one);
+    assert_eq!(rt;
+        text(alloc, Kind::Block(core), 3, 4, 1_000)?.as_slice(),
+        of_one
+    );
     // at this limit the column 5, which is in the other block, is refused
     let four_one = b" 4,1; 4,1 1; 2,1^3 1".as_slice();
     let core = Partition::from_parts(&[2, 1])?;
-    assert_eq!(rt; text(alloc, Kind::Block(core), 2, 5, 2)?.as_slice(), four_one);
+    assert_eq!(rt;
+        text(alloc, Kind::Block(core), 2, 5, 2)?.as_slice(),
+        four_one
+    );
     let core = Partition::from_parts(&[1])?;
     let refused = b"too large at 5".as_slice();
-    assert_eq!(rt; text(alloc, Kind::Block(core), 2, 5, 2)?.as_slice(), refused);
+    assert_eq!(rt;
+        text(alloc, Kind::Block(core), 2, 5, 2)?.as_slice(),
+        refused
+    );
     Ok(())
 }

@@ -114,8 +114,8 @@ returns-in-Err-clause-refused c =
     ∙ ap (λ o. or_else o rest) (told_refusal c.in-Err.why x)
     ∙ ap (λ mu. Some (refusal_at mu c.in-Err.why)) (c.mu.ensures.value ∙ sym c.mu-in-Err.ensures.value) in
     λ refused e.
-        let is : refusal_at c.mu-in-Err.result.now c.in-Err.why ≡ refused = cc in
-        told ∙ ap Some is
+    let is : refusal_at c.mu-in-Err.result.now c.in-Err.why ≡ refused = cc in
+    told ∙ ap Some is
 
 pub loop-k-preserved : goal.loop-k-preserved
 loop-k-preserved c =
