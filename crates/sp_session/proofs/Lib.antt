@@ -4,3 +4,5 @@ pub mod Finding
 pub mod Images
 pub mod Induced
 pub mod Painted
+pub mod Pairs
+pub mod SimpleDims

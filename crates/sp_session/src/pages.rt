@@ -170,7 +170,12 @@ fn put_refused(
     }
 }
 
-fn put_too_large(alloc: Global, mu: &Partition, out: &mut Vec<u8>) -> Result<(), AllocError>
+/// That a column is too large, without a newline.
+pub(crate) fn put_too_large(
+    alloc: Global,
+    mu: &Partition,
+    out: &mut Vec<u8>,
+) -> Result<(), AllocError>
     ensures { OnOk result (out.new.items ≡ out.old.items ++ too_large_text mu.now) }
 {
     out.extend_from_slice(b"error 9 too large at column ")?;

@@ -8,7 +8,7 @@ use crate::abacuses::{put_combined, put_core};
 use crate::diagrams::put_content;
 use crate::easel::{Easel, Remembers};
 use crate::faults::put_fault;
-use crate::modules::{put_dim, put_jantzen};
+use crate::modules::{put_dim, put_dims, put_jantzen, put_schaper};
 use crate::orders::{put_conjugate, put_dominance, put_partitions, put_regulars};
 use crate::pages::{put_block, put_choice, put_crystal, put_decomposition};
 use crate::signatures::{put_good, put_image, put_path};
@@ -84,10 +84,10 @@ fn put_answer(
         Command::Decomposition(e, n) => put_decomposition(alloc, limit, easel, *e, *n, out),
         Command::Block(e, kappa, w) => put_block(alloc, limit, easel, *e, kappa, *w, out),
         Command::Jantzen(e, p) => put_jantzen(alloc, *e, p, out),
+        Command::Schaper(e, n) => put_schaper(alloc, limit, *e, *n, out),
         Command::Dim(p) => put_dim(alloc, p, out),
+        Command::Dims(e, n) => put_dims(alloc, limit, *e, *n, out),
         // not built yet
-        Command::Row(_, _)
-        | Command::Schaper(_, _)
-        | Command::Dims(_, _) => put_fault(LineFault::UnknownCommand, out),
+        Command::Row(_, _) => put_fault(LineFault::UnknownCommand, out),
     }
 }

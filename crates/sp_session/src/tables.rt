@@ -1,7 +1,10 @@
 // The grids that pages show.
 ghost use Rattle.std.specs.Prelude.{◌≡◌, ◌≤◌, ◌<◌, ◌^◌, IfOk, IfSome, IsNone};
 ghost use Rattle.sp_defs.specs.Partition.{IsPartition, degree as degree_of};
+ghost use Rattle.sp_dims.specs.Cells.{cell_at};
+ghost use Rattle.sp_dims.specs.Solution.{IsUnitriangular};
 ghost use Rattle.sp_fock_law.specs.Grid.{GridValue};
+ghost use Rattle.sp_matrix.specs.Agreements.{HasAll};
 ghost use Rattle.sp_session.specs.Pages.{block_degree, block_table, block_within, crystal_table, decomposition_table};
 ghost use Rattle.sp_session.specs.Tables.{IsTold};
 
@@ -35,7 +38,9 @@ pub(crate) fn crystal_table(alloc: Global, limit: u128, e: u8, n: u8) -> Result<
     requires e_least { 2 ≤ e }
     requires e_most { e ≤ 64 }
     requires small { n ≤ DEGREE_LIMIT }
-    ensures { IfOk result (λ table. table ≡ crystal_table limit e n) }
+    ensures table { IfOk result (λ table. table ≡ crystal_table limit e n) }
+    ensures all { IfOk result (λ table. IfOk table (HasAll e)) }
+    ensures triangular { IfOk result (λ table. IfOk table (λ grid. IsUnitriangular grid.columns (cell_at grid))) }
 {
     let ctx = Ctx::open(alloc, e, n, limit)?;
     let rows = fill_alone(alloc, &ctx)?;
