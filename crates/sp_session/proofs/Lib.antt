@@ -5,3 +5,6 @@ pub mod DominanceTest
 pub mod Finding
 pub mod Images
 pub mod Induced
+pub mod Painted
+pub mod Pairs
+pub mod SimpleDims

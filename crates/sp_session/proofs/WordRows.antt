@@ -54,3 +54,14 @@ map_seen text seen (x ∷ xs) = ap (λ r. text (seen x) ∷ r) (map_seen text se
 pub spaced : (words : List (List ℕ)) → 0 < length words → joined_by (codes " ") words ≡ dash_or_words words
 spaced [] some = absurd (omega arith)
 spaced (word ∷ words) some = refl
+
+-- Four pieces that were appended in turn.
+pub four_pieces : (first second third fourth begin one two three last : List ℕ) → one ≡ begin ++ first →
+    two ≡ one ++ second → three ≡ two ++ third → last ≡ three ++ fourth →
+    last ≡ begin ++ (first ++ second ++ third ++ fourth)
+four_pieces first second third fourth begin one two three last one_is two_is three_is last_is =
+    last_is
+    ∙ ap (λ xs. xs ++ fourth) (three_is ∙ ap (λ xs. xs ++ third) (two_is ∙ ap (λ xs. xs ++ second) one_is))
+    ∙ ap (λ xs. xs ++ third ++ fourth) (append_assoc begin first second)
+    ∙ ap (λ xs. xs ++ fourth) (append_assoc begin (first ++ second) third)
+    ∙ append_assoc begin (first ++ second ++ third) fourth

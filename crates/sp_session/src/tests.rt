@@ -2,6 +2,7 @@ ghost use Rattle.std.specs.Prelude.{◌<◌};
 
 use crate::{Status, run_alone};
 use sp_base::{MemSink, MemSource};
+use sp_paint::{Gap, Painter, Plain, Tex};
 use std::alloc::{AllocError, Global};
 use std::test::Fail;
 use std::vec;
@@ -29,6 +30,20 @@ fn plain(input: &'static str, status: Status, output: &'static str) -> Case {
     }
 }
 
+/// How a run with the painters plain, tex and gap ends.
+fn run(
+    alloc: Global,
+    words: &[String],
+    source: &mut MemSource,
+    sink: &mut MemSink,
+) -> Result<Status, AllocError> {
+    let mut painters: Vec<Box<dyn Painter>> = Vec::new(alloc);
+    painters.push(Box::new(alloc, Plain::new())?)?;
+    painters.push(Box::new(alloc, Tex::new())?)?;
+    painters.push(Box::new(alloc, Gap::new())?)?;
+    Ok(run_alone(alloc, words, source, sink, painters))
+}
+
 /// Whether a run ends as the case says.
 fn holds(alloc: Global, case: &Case) -> Result<bool, AllocError> {
     let mut words = Vec::new(alloc);
@@ -39,7 +54,7 @@ fn holds(alloc: Global, case: &Case) -> Result<bool, AllocError> {
     input.extend_from_slice(case.input.as_bytes())?;
     let mut source = MemSource::new(input, 14, vec![in alloc; case.failing_read]?);
     let mut sink = MemSink::new(alloc, 1_000, 7, vec![in alloc; case.failing_write]?)?;
-    let status = run_alone(alloc, &words, &mut source, &mut sink);
+    let status = run(alloc, &words, &mut source, &mut sink)?;
     Ok(status == case.status && sink.bytes() == case.output.as_bytes())
 }
 
@@ -213,7 +228,7 @@ fn run_of(alloc: Global, input: Vec<u8>, piece: usize) -> Result<(Status, Vec<u8
 {
     let mut source = MemSource::new(input, piece, Vec::new(alloc));
     let mut sink = MemSink::new(alloc, 1_000, 100, Vec::new(alloc))?;
-    let status = run_alone(alloc, &[], &mut source, &mut sink);
+    let status = run(alloc, &[], &mut source, &mut sink)?;
     let mut written = Vec::new(alloc);
     written.extend_from_slice(sink.bytes())?;
     Ok((status, written))
@@ -241,7 +256,7 @@ fn a_full_sink_has_the_first_bytes(rt: HostRuntime) -> Result<(), Fail> {
     input.extend_from_slice(b"induce 2 0 1 3,1\ninduce 2 0 1 2^2\n")?;
     let mut source = MemSource::new(input, 14, Vec::new(alloc));
     let mut sink = MemSink::new(alloc, 24, 1, Vec::new(alloc))?;
-    let status = run_alone(alloc, &[], &mut source, &mut sink);
+    let status = run(alloc, &[], &mut source, &mut sink)?;
     assert!(rt; status == Status::WriteFault);
     assert_eq!(rt; sink.bytes(), b"v^-1[3,2] + [3,1^2]\n[3,2".as_slice());
     Ok(())
