@@ -10,11 +10,8 @@ use crate::easel::{Easel, Remembers};
 use crate::faults::put_fault;
 use crate::modules::{put_dim, put_dims, put_jantzen, put_schaper};
 use crate::orders::{put_conjugate, put_dominance, put_partitions, put_regulars};
-<<<<<<< HEAD
-use crate::rows::put_row;
-=======
 use crate::pages::{put_block, put_choice, put_crystal, put_decomposition};
->>>>>>> 0659cbe790acf4bc5f055be07fe5d4304b9595c6
+use crate::rows::put_row;
 use crate::signatures::{put_good, put_image, put_path};
 use crate::vectors::{put_induced, put_ladder_vector, put_ladders};
 use sp_abacus::abacus_text;
@@ -83,9 +80,7 @@ fn put_answer(
         Command::Induce(e, i, m, p) => put_induced(alloc, limit, *e, *i, *m, p, out),
         Command::Ladders(e, mu) => put_ladders(alloc, *e, mu, out),
         Command::Ladder(e, mu) => put_ladder_vector(alloc, limit, *e, mu, out),
-<<<<<<< HEAD
         Command::Row(e, mu) => put_row(alloc, limit, *e, mu, out),
-=======
         Command::Painter(name) => put_choice(easel, name, out),
         Command::Crystal(e, n) => put_crystal(alloc, limit, easel, *e, *n, out),
         Command::Decomposition(e, n) => put_decomposition(alloc, limit, easel, *e, *n, out),
@@ -94,8 +89,5 @@ fn put_answer(
         Command::Schaper(e, n) => put_schaper(alloc, limit, *e, *n, out),
         Command::Dim(p) => put_dim(alloc, p, out),
         Command::Dims(e, n) => put_dims(alloc, limit, *e, *n, out),
-        // not built yet
-        Command::Row(_, _) => put_fault(LineFault::UnknownCommand, out),
->>>>>>> 0659cbe790acf4bc5f055be07fe5d4304b9595c6
     }
 }

@@ -84,11 +84,7 @@ pub(crate) fn put_ladder_vector(
     }
 }
 
-<<<<<<< HEAD
-/// The text of a vector as a line.
-=======
 /// A vector as a line.
->>>>>>> 0659cbe790acf4bc5f055be07fe5d4304b9595c6
 pub(crate) fn put_vector(
     alloc: Global,
     vector: &Vector,
