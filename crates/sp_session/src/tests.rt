@@ -9,17 +9,17 @@ use std::vec;
 
 /// A case: the words, the input, the call of the source and of the sink that fails, if any, the status and the output.
 #[derive(Drop)]
-struct Case {
-    words: &'static [&'static str],
-    input: &'static str,
-    failing_read: u64,
-    failing_write: u64,
-    status: Status,
-    output: &'static str,
+pub(crate) struct Case {
+    pub(crate) words: &'static [&'static str],
+    pub(crate) input: &'static str,
+    pub(crate) failing_read: u64,
+    pub(crate) failing_write: u64,
+    pub(crate) status: Status,
+    pub(crate) output: &'static str,
 }
 
 /// No words, and nothing fails.
-fn plain(input: &'static str, status: Status, output: &'static str) -> Case {
+pub(crate) fn plain(input: &'static str, status: Status, output: &'static str) -> Case {
     Case {
         words: &[],
         input,
@@ -45,7 +45,7 @@ fn run(
 }
 
 /// Whether a run ends as the case says.
-fn holds(alloc: Global, case: &Case) -> Result<bool, AllocError> {
+pub(crate) fn holds(alloc: Global, case: &Case) -> Result<bool, AllocError> {
     let mut words = Vec::new(alloc);
     for word in case.words {
         words.push(String::from_str(alloc, word)?)?;
@@ -98,7 +98,11 @@ fn a_line_that_a_fault_cuts_is_not_answered(rt: HostRuntime) -> Result<(), Fail>
 }
 
 /// Whether the lines are answered so.
-fn gives(alloc: Global, input: &'static str, output: &'static str) -> Result<bool, AllocError> {
+pub(crate) fn gives(
+    alloc: Global,
+    input: &'static str,
+    output: &'static str,
+) -> Result<bool, AllocError> {
     holds(alloc, &plain(input, Status::Done, output))
 }
 

@@ -19,6 +19,7 @@ returns-in-Ok c =
 
 pub returns-in-Err : goal.returns-in-Err
 returns-in-Err c =
-    fault_told c.put_dims_fault.result c.in-Err.fault _ _ _ c.put_dims_fault.ensures.line c.put_dims_fault.ensures.memory
+    fault_told c.put_dims_fault.result c.in-Err.fault _ _ _ c.put_dims_fault.ensures.line
+    c.put_dims_fault.ensures.memory
     (λ at is. past_text c.args.limit c.args.grid.now c.degree-held.ensures.grid c.requires.triangular at
     (c.in-Err.ensures.too_large at (ap Err is)))
