@@ -119,11 +119,10 @@ ColumnIs e limit d p mu (Err fault.Memory) = Unit {0}
 
 by_factors : (e limit : ℕ) (d : Cells) (p mu : List ℕ) (r : Result Bool CompareFault) →
     CellIs limit (map (factors_at d mu) (jantzen_entries e p)) (d p mu) r → ColumnIs e limit d p mu r
-by_factors e limit d p mu (Ok b) (past, is) =
-    (
-      sym (ap (λ s. nat_lt limit (max s (slope_size (d p mu)))) (size_is e d p mu)) ∙ past,
-      is ∙ ap (λ s. int_eq s (slope_at_one (d p mu))) (value_is e d p mu),
-    )
+by_factors e limit d p mu (Ok b) (past, is) = (
+  sym (ap (λ s. nat_lt limit (max s (slope_size (d p mu)))) (size_is e d p mu)) ∙ past,
+  is ∙ ap (λ s. int_eq s (slope_at_one (d p mu))) (value_is e d p mu),
+)
 by_factors e limit d p mu (Err fault.TooLarge) past =
     sym (ap (λ s. nat_lt limit (max s (slope_size (d p mu)))) (size_is e d p mu)) ∙ past
 by_factors e limit d p mu (Err fault.Memory) u = tt
