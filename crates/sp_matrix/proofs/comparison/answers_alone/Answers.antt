@@ -1,4 +1,4 @@
-use Rattle.std.proofs.Common.{◌≡◌, ◌+◌, ◌++◌, ◌∷◌, [], List, ℕ, Bool, Result, get_or, take, sym, ◌∙◌, ap, subst}
+use Rattle.std.proofs.Common.{◌+◌, ◌++◌, ◌∷◌, [], List, ℕ, Bool, Result, take, sym, ◌∙◌, ap, subst}
 use Rattle.std.proofs.lemmas.List.{take_more}
 use Rattle.std.specs.List.{AllZip}
 use Rattle.sp_dims.specs.Cells.{cell_at}
@@ -10,7 +10,7 @@ use Rattle.sp_matrix.proofs.comparison.answers_alone.Goals as goal
 pub loop-p-preserved : goal.loop-p-preserved
 loop-p-preserved c =
     let is = λ (p : List ℕ) (answer : Result Bool CompareFault).
-        LineIs c.args.e c.args.limit (cell_at c.args.grid.now) p answer in
+    LineIs c.args.e c.args.limit (cell_at c.args.grid.now) p answer in
     let xs = c.lines-p-items.result.now in
     let i = c.loop-p.p-index in
     let x = c.p-item.result in
