@@ -1,7 +1,7 @@
 -- A line of a matrix, column by column.
-use Rattle.std.proofs.Common.{◌≡◌, ◌≢◌, ℕ, zero, suc, ◌+◌, ◌*◌, ◌<◌, Bool, true, false, cond, not, nat_eq, nat_lt, max}
-use Rattle.std.proofs.Common.{List, [], ◌∷◌, map, length, reverse, take, get_or, refl, sym, ◌∙◌, ap, ap₂, subst, arith}
-use Rattle.std.proofs.Common.{Result, Ok, Err, Option, ℤ, ◌*ℤ◌, ◌⊎◌, inl, inr, sum_by}
+use Rattle.std.proofs.Common.{◌≡◌, ◌≢◌, ℕ, suc, ◌+◌, ◌*◌, ◌<◌, Bool, true, false, cond, not, nat_eq, nat_lt, max}
+use Rattle.std.proofs.Common.{List, [], ◌∷◌, map, length, reverse, get_or, refl, sym, ◌∙◌, ap, subst, arith}
+use Rattle.std.proofs.Common.{Result, Ok, Err, Option, ℤ, ◌*ℤ◌, inl, inr}
 use Rattle.std.proofs.lemmas.List.{get_or-map}
 use Rattle.std.specs.Int.RustNames.{unsigned_abs}
 use mathlib.Core.List.{map-map}
@@ -12,19 +12,19 @@ use Rattle.std.specs.Ordering.{int_eq}
 use Rattle.std.specs.Cmp.Lexicographic.{pointwise}
 use Rattle.sp_defs.specs.Partition.{degree, partitions, regulars, IsPartitionOf}
 use Rattle.sp_defs.specs.Laurent.{Laurent, int_sum, value_at_one, slope_at_one}
-use Rattle.sp_defs.specs.Power.{Entries}
 use Rattle.sp_lists.proofs.Counts.{sum-map}
 use Rattle.sp_lists.proofs.Elements.{all_map}
 use Rattle.sp_lists.proofs.Places.{all_weaken}
 use Rattle.sp_shapes.proofs.Listing.{Occurs, each_partition, all_partitions}
 use Rattle.sp_partition.specs.OrderLaws.{lists_equal}
-use Rattle.sp_fock_law.specs.Grid.{GridValue, IsGrid, row_of, cell_of}
+use Rattle.sp_fock_law.specs.Grid.{GridValue, IsGrid, cell_of}
 use Rattle.sp_fock_law.proofs.Vectors.{all_at as entries_keep}
 use Rattle.sp_outcome_law.proofs.Exceeding.{greatest_past}
 use Rattle.sp_outcome_law.proofs.Listed.{any-map}
 use Rattle.sp_llt.proofs.Lists.{map_alike}
 use Rattle.sp_module_defs.specs.Jantzen.{jantzen_sum}
-use Rattle.sp_module_defs.specs.Agreement.{Cells, agrees, agreement_weight, jantzen_entries, jantzen_value, jantzen_size}
+use Rattle.sp_module_defs.specs.Agreement.{Cells, agrees, agreement_weight, jantzen_entries}
+use Rattle.sp_module_defs.specs.Agreement.{jantzen_value, jantzen_size}
 use Rattle.sp_module_defs.specs.Agreement.{slope_size}
 use Rattle.sp_dims.specs.Cells.{place, cell_at}
 use Rattle.sp_dims.proofs.Rows.{row_cells, found_place}

@@ -1,12 +1,10 @@
 -- The cells along a line.
-use Rattle.std.proofs.Common.{◌≡◌, ℕ, ◌+◌, ◌<◌, List, [], ◌∷◌, ◌++◌, map, length, take, get_or, refl, sym, ◌∙◌, ap, Bor}
+use Rattle.std.proofs.Common.{◌≡◌, ℕ, ◌+◌, ◌<◌, List, [], ◌∷◌, ◌++◌, map, length, take, get_or, refl, sym, ◌∙◌, ap}
 use Rattle.std.proofs.lemmas.List.{take_more, map-append}
-use Rattle.sp_defs.specs.Laurent.{Laurent, int_sum}
-use Rattle.sp_defs.specs.Power.{FockVector, vector_of}
+use Rattle.sp_defs.specs.Laurent.{int_sum}
 use Rattle.sp_matrix.specs.declared.scope.Form.{Form}
 use Rattle.sp_matrix.specs.declared.scope.Form.TheVariants.{Polynomial, Constant}
 use Rattle.sp_matrix.specs.Scope.{shown}
-use Rattle.sp_matrix.specs.Walk.{line_cells, vectors_of}
 
 pub shown_nought : (form : Form) → shown form [] ≡ []
 unfolding int_sum

@@ -1,5 +1,5 @@
 -- Tables are grids, and the rows of the columns have their cells.
-use Rattle.std.proofs.Common.{◌≡◌, ℕ, ◌+◌, Bool, true, false, cond, List, [], ◌∷◌, ◌++◌, map, length, reverse, filter}
+use Rattle.std.proofs.Common.{◌≡◌, ℕ, Bool, true, false, cond, List, [], ◌∷◌, ◌++◌, map, length, reverse, filter}
 use Rattle.std.proofs.Common.{refl, sym, ◌∙◌, ap, subst}
 use Rattle.std.proofs.lemmas.List.{append-nil, length-map, reverse-append, reverse-reverse}
 use mathlib.Core.List.{map-map}
@@ -7,13 +7,12 @@ use Rattle.std.specs.List.{AllByRecursion}
 use Rattle.std.specs.Ordering.{is_eq}
 use Rattle.sp_defs.specs.Partition.{partitions, regulars, compare, Ascending, IsPartitionOf, IsRegularOf}
 use Rattle.sp_defs.specs.Abacus.{core}
-use Rattle.sp_defs.specs.Laurent.{Laurent}
 use Rattle.sp_defs.specs.Power.{FockVector, vector_of}
 use Rattle.sp_defs.specs.Row.{regular_row}
 use Rattle.sp_lists.proofs.Elements.{all_filter, all_map, all_every, filter_append}
 use Rattle.sp_lists.proofs.Places.{all_weaken}
 use Rattle.sp_shapes.proofs.Listing.{all_partitions, partitions_ascend, all_regulars, regulars_ascend, Ascending-filter}
-use Rattle.sp_fock_law.specs.Grid.{GridValue, IsHeading, IsGrid}
+use Rattle.sp_fock_law.specs.Grid.{IsHeading, IsGrid}
 use Rattle.sp_fock_law.proofs.Vectors.{vector_of-entries}
 use Rattle.sp_llt.proofs.Lists.{all_reverse, map_alike}
 use Rattle.sp_module_defs.specs.Agreement.{Cells}

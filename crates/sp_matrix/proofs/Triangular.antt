@@ -1,17 +1,17 @@
 -- Tables have 1 at each column's own line and 0 above it.
-use Rattle.std.proofs.Common.{◌≡◌, ◌≢◌, ℕ, zero, suc, ◌+◌, ◌≤◌, Bool, true, false, cond, not, List, [], ◌∷◌, ◌++◌}
+use Rattle.std.proofs.Common.{◌≡◌, ◌≢◌, ℕ, suc, ◌+◌, ◌≤◌, Bool, true, false, cond, not, List, [], ◌∷◌}
 use Rattle.std.proofs.Common.{map, reverse, get_or, nat_eq, refl, sym, ◌∙◌, ap, subst, arith, ◌⊎◌, inl, inr}
 use Rattle.std.proofs.lemmas.List.{reverse-append}
 use Rattle.std.specs.List.{AllByRecursion}
 use Rattle.std.specs.Ordering.{is_eq}
 use Rattle.std.specs.Cmp.Lexicographic.{pointwise}
-use Rattle.std.specs.declared.cmp.Ordering.TheVariants.{Less, Equal, Greater}
+use Rattle.std.specs.declared.cmp.Ordering.TheVariants.{Greater}
 use Rattle.sp_defs.specs.Partition.{partitions, regulars, compare, IsPartitionOf, IsRegularOf}
 use Rattle.sp_defs.specs.Abacus.{core}
-use Rattle.sp_defs.specs.Laurent.{Laurent, one, int_sum}
+use Rattle.sp_defs.specs.Laurent.{one, int_sum}
 use Rattle.sp_defs.specs.Row.{regular_row}
 use Rattle.sp_defs.specs.Statements.{IsLabel}
-use Rattle.sp_lists.proofs.Elements.{nil_or_not, all_filter, all_every}
+use Rattle.sp_lists.proofs.Elements.{nil_or_not, all_filter}
 use Rattle.sp_lists.proofs.Places.{all_weaken}
 use Rattle.sp_shapes.proofs.Listing.{Occurs, occurs_left, occurs_right, occurs_filter, each_partition, each_regular}
 use Rattle.sp_shapes.proofs.Listing.{all_partitions, all_regulars}
@@ -20,7 +20,6 @@ use Rattle.sp_partition.specs.OrderLaws.{equal_lists, lists_equal}
 use Rattle.sp_row_law.proofs.RowsLaw.{rows_law}
 use Rattle.sp_outcome_law.proofs.Earlier.{row_earlier}
 use Rattle.sp_llt.proofs.Lists.{all_reverse}
-use Rattle.sp_fock_law.specs.Grid.{GridValue}
 use Rattle.sp_module_defs.specs.Agreement.{Cells}
 use Rattle.sp_dims.specs.Cells.{place, cell_at}
 use Rattle.sp_dims.specs.Solution.{IsUnitriangular as IsSquareUnitriangular}
@@ -32,7 +31,6 @@ use Rattle.sp_matrix.specs.Matrix.{table, lines_of, columns_of}
 use Rattle.sp_matrix.specs.Scope.{is_in, within, shown, cell_of, table_of}
 use Rattle.sp_matrix.specs.Triangular.{IsUnitriangular}
 use Rattle.sp_matrix.proofs.Shown.{shown_nought}
-use Rattle.sp_matrix.proofs.Tables.{lines_heading}
 
 -- ---- cells by their line and column
 
@@ -85,7 +83,8 @@ unfolding within
 all_within e All P xs h =
     all_weaken P (λ x. P x × (true ≡ true)) (reverse xs) (λ x p. (p, refl)) (all_reverse P xs h)
 all_within e (Block kappa) P xs h =
-    all_filter (λ x. P x × (is_eq (compare (core e x) kappa) ≡ true)) (λ y. is_eq (compare (core e y) kappa)) (reverse xs)
+    all_filter (λ x. P x × (is_eq (compare (core e x) kappa) ≡ true)) (λ y. is_eq (compare (core e y) kappa))
+    (reverse xs)
     (all_weaken P
     (λ x. is_eq (compare (core e x) kappa) ≡ true → P x × (is_eq (compare (core e x) kappa) ≡ true)) (reverse xs)
     (λ x p is. (p, is)) (all_reverse P xs h))
@@ -153,7 +152,8 @@ module _ (e n : ℕ) (two : 2 ≤ e) (s : Scope) (form : Form) where
       ∙ shown_nought form
 
   abbrev IsAbove : List (List ℕ) → List ℕ → Type 0
-  IsAbove xs mu = AllByRecursion (λ lambda. compare lambda mu ≡ Greater → cell_at (table_of e n s form) lambda mu ≡ []) xs
+  IsAbove xs mu =
+      AllByRecursion (λ lambda. compare lambda mu ≡ Greater → cell_at (table_of e n s form) lambda mu ≡ []) xs
 
   pub triangular : IsUnitriangular (table_of e n s form)
   unfolding table_of

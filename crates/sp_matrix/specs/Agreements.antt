@@ -1,7 +1,8 @@
 -- A matrix held against Jantzen sums: what is told of it, line by line.
 -- James and Mathas, 1997: A q-analogue of the Jantzen-Schaper theorem; Ryom-Hansen, 2003: The Schaper formula and the
 -- Lascoux, Leclerc and Thibon algorithm.
-use Rattle.std.specs.Prelude.{◌≡◌, ◌≤◌, ◌<◌, ◌^◌, ℕ, Bool, true, false, not, nat_lt, max, List, map, length, find, count_by, ℤ}
+use Rattle.std.specs.Prelude.{◌≡◌, ◌≤◌, ◌<◌, ◌^◌, ℕ, Bool, true, false, not, nat_lt, max}
+use Rattle.std.specs.Prelude.{List, map, length, find, count_by, ℤ}
 use Rattle.std.specs.List.{list_any}
 use Rattle.std.specs.Ordering.{int_eq}
 use Rattle.std.specs.declared.result.Result.{Result}

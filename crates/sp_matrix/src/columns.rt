@@ -1,5 +1,6 @@
 // The rows of the columns of a table.
-ghost use Rattle.std.specs.Prelude.{◌≡◌, ◌++◌, ◌∷◌, [], IfOk, IfErr, OnOk, IsErrOf, map, reverse, None as Nothing, Some as Just};
+ghost use Rattle.std.specs.Prelude.{◌≡◌, ◌++◌, ◌∷◌, [], IfOk, IfErr, OnOk, IsErrOf};
+ghost use Rattle.std.specs.Prelude.{map, reverse, None as Nothing, Some as Just};
 ghost use Rattle.sp_llt.specs.Place.{labels};
 ghost use Rattle.sp_pool.specs.Filled.{IsFilled};
 ghost use Rattle.sp_matrix.specs.Refusal.{refused_column};

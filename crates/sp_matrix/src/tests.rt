@@ -1,13 +1,14 @@
 //! Worked matrices.
 ghost use Rattle.std.specs.Prelude.{◌≤◌, ◌<◌, ◌^◌};
 
-use crate::{block, crystal, decomposition};
+use crate::{Agreement, CompareFault, block, compare, compare_alone, crystal, decomposition};
 use sp_fock::Grid;
 use sp_llt::{Ctx, Refused, RowsFault};
 use sp_partition::Partition;
 use sp_pool::fill_alone;
 use std::alloc::Global;
 use std::test::Fail;
+use std::thread::Threads;
 
 /// Which matrix is made.
 #[derive(Drop)]
@@ -117,6 +118,91 @@ fn blocks_have_their_own_columns(rt: HostRuntime) -> Result<(), Fail> {
     assert_eq!(rt;
         text(alloc, Kind::Block(core), 2, 5, 2)?.as_slice(),
         refused
+    );
+    Ok(())
+}
+
+/// What an agreement tells, or why there is none.
+fn told(alloc: Global, answer: Result<Agreement, CompareFault>) -> Result<Vec<u8>, Fail> {
+    let mut out = Vec::new(alloc);
+    match answer {
+        Ok(agreement) => {
+            out.extend_from_slice(format!(in alloc;
+                "{} of {}",
+                agreement.agreeing, agreement.total
+            )?.as_bytes())?;
+            if let Some(first) = agreement.first {
+                out.extend_from_slice(b", not ")?;
+                first.print(alloc, &mut out)?;
+            }
+        }
+        Err(CompareFault::TooLarge) => out.extend_from_slice(b"too large")?,
+        Err(CompareFault::Memory) => out.extend_from_slice(b"memory")?,
+    }
+    Ok(out)
+}
+
+/// The comparison of a matrix of coefficients, on one thread and on many, or of their values at v = 1.
+fn compared(
+    rt: &(impl Threads + Sync),
+    alloc: Global,
+    kind: Kind,
+    e: u8,
+    degree: u8,
+    limit: u128,
+) -> Result<Vec<u8>, Fail>
+    requires e_least { 2 ≤ e }
+    requires e_most { e ≤ 64 }
+    requires small { degree ≤ 20 }
+    requires least { 1 ≤ limit }
+    requires most { limit < 2 ^ 127 }
+{
+    let ctx = Ctx::open(alloc, e, degree, 1_000_000)?;
+    let rows = fill_alone(alloc, &ctx)?;
+    let mut out = Vec::new(alloc);
+    match kind {
+        Kind::Crystal => {
+            if let Ok(grid) = crystal(alloc, &ctx, &rows) {
+                let alone = told(alloc, compare_alone(alloc, e, &grid, limit))?;
+                out.extend_from_slice(&alone)?;
+                out.extend_from_slice(b"; ")?;
+                let many = told(alloc, compare(rt, alloc, e, &grid, limit))?;
+                out.extend_from_slice(&many)?;
+            }
+        }
+        Kind::Decomposition => {
+            if let Ok(grid) = decomposition(alloc, &ctx, &rows) {
+                let alone = told(alloc, compare_alone(alloc, e, &grid, limit))?;
+                out.extend_from_slice(&alone)?;
+            }
+        }
+        Kind::Block(_) => {}
+    }
+    Ok(out)
+}
+
+#[test]
+fn derivatives_at_one_are_jantzen_sums(rt: HostRuntime) -> Result<(), Fail> {
+    let five = b"5 of 5; 5 of 5".as_slice();
+    assert_eq!(rt;
+        compared(&rt, rt.alloc(), Kind::Crystal, 2, 4, 1_000)?.as_slice(),
+        five
+    );
+    let seven = b"7 of 7; 7 of 7".as_slice();
+    assert_eq!(rt;
+        compared(&rt, rt.alloc(), Kind::Crystal, 3, 5, 3)?.as_slice(),
+        seven
+    );
+    let large = b"too large; too large".as_slice();
+    assert_eq!(rt;
+        compared(&rt, rt.alloc(), Kind::Crystal, 2, 6, 3)?.as_slice(),
+        large
+    );
+    // the derivatives of constants are 0
+    let one = b"1 of 5, not 3,1".as_slice();
+    assert_eq!(rt;
+        compared(&rt, rt.alloc(), Kind::Decomposition, 2, 4, 1_000)?.as_slice(),
+        one
     );
     Ok(())
 }

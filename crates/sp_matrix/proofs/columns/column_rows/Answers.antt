@@ -1,5 +1,5 @@
-use Rattle.std.proofs.Common.{◌≡◌, ◌-◌, ◌<◌, ◌≤◌, ◌++◌, ◌∷◌, [], true, map, length, reverse, take, get_or}
-use Rattle.std.proofs.Common.{ℕ, List, None, Some, Err, refl, sym, ◌∙◌, ap, ap₂, subst, arith, append-nil}
+use Rattle.std.proofs.Common.{◌≡◌, ◌-◌, ◌<◌, ◌≤◌, ◌++◌, [], true, map, length, reverse, take, get_or}
+use Rattle.std.proofs.Common.{ℕ, List, Some, Err, sym, ◌∙◌, ap, arith, append-nil}
 use Rattle.std.proofs.lemmas.List.{get_or_default}
 use Rattle.std.specs.Arc.{arc_value}
 use Rattle.std.specs.declared.sync.Arc.{Arc}
@@ -13,7 +13,6 @@ use Rattle.sp_llt.specs.Place.{Place, place, label, labels}
 use Rattle.sp_llt.specs.Refusals.{refused_as, or_else, outcome_at}
 use Rattle.sp_pool.specs.Filled.{IsFilled}
 use Rattle.sp_pool.proofs.Firsts.{first_count, first_entry}
-use Rattle.sp_matrix.specs.declared.scope.Scope.{Scope}
 use Rattle.sp_matrix.specs.Refusal.{refused_column}
 use Rattle.sp_matrix.specs.Scope.{is_in, within}
 use Rattle.sp_matrix.specs.Walk.{row_of, vectors_of}

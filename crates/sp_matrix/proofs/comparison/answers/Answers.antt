@@ -1,4 +1,4 @@
-use Rattle.std.proofs.Common.{◌≡◌, List, ℕ, Bool, Result, ap, ◌∙◌}
+use Rattle.std.proofs.Common.{List, ℕ, Bool, Result, ◌∙◌}
 use Rattle.rayon.proofs.ListFacts.{IfOk-then}
 use Rattle.rayon.proofs.ToStd.{slice-AllZip}
 use Rattle.sp_dims.specs.Cells.{cell_at}

@@ -1,5 +1,5 @@
-use Rattle.std.proofs.Common.{◌≡◌, ◌+◌, ◌<◌, List, [], ℕ, Bool, true, false, cond, not, Result, Ok, Err, Option, None, Some}
-use Rattle.std.proofs.Common.{length, get_or, take, nat_lt, count_by, find, refl, sym, ◌∙◌, ap, ap₂, subst, arith}
+use Rattle.std.proofs.Common.{◌≡◌, ◌+◌, ◌<◌, List, [], ℕ, Bool, true, false, cond, not, Result, Ok, Err, None, Some}
+use Rattle.std.proofs.Common.{length, get_or, nat_lt, refl, sym, ◌∙◌, ap, ap₂, subst}
 use Rattle.std.proofs.lemmas.List.{get_or_read}
 use mir.Val.{bool_byte}
 use Rattle.std.proofs.lemmas.Slice.Zip.{AllZip-long}
@@ -56,7 +56,8 @@ returns-in-Err-clause-too_large c =
     let here : is (get_or g.lines i []) (Err c.in-Err.fault) =
     subst (is (get_or g.lines i [])) c.in-Err.is
     (zip_at is g.lines c.args.answers.now i [] _ c.requires lt) in
-    λ h. past_line c.args.e c.args.limit (cell_at g) g.lines i c.in-Err.fault lt here (let k : c.in-Err.fault ≡ fault.TooLarge = cc in k)
+    λ h. past_line c.args.e c.args.limit (cell_at g) g.lines i c.in-Err.fault lt here
+    (let k : c.in-Err.fault ≡ fault.TooLarge = cc in k)
 
 pub loop-line-preserved : goal.loop-line-preserved
 loop-line-preserved c =

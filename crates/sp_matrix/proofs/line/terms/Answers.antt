@@ -1,9 +1,8 @@
-use Rattle.std.proofs.Common.{◌≡◌, ◌+◌, ◌<◌, ◌++◌, ◌∷◌, [], List, map, length, get_or, sym, ◌∙◌, ap, ap₂, subst, ℤ, ℕ, rules, SFits}
+use Rattle.std.proofs.Common.{◌<◌, ◌++◌, ◌∷◌, [], List, length, sym, ◌∙◌, ap₂, subst, ℤ, ℕ, rules, SFits}
 use Rattle.std.proofs.Common.{to_z-of_z}
 use Rattle.std.specs.Int.{w128}
 use Rattle.std.specs.List.{AllByRecursion}
-use Rattle.sp_defs.specs.Laurent.{Laurent, value_at_one}
-use Rattle.sp_defs.specs.Power.{FockVector}
+use Rattle.sp_defs.specs.Laurent.{Laurent}
 use Rattle.sp_lists.proofs.Places.{all_at}
 use Rattle.sp_dims.specs.Cells.{place}
 use Rattle.sp_matrix.specs.declared.line.Term.{Term}

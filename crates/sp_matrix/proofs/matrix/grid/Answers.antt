@@ -40,7 +40,9 @@ whole : (key told : Key) (s : Scope) (form : Form) (columns lines regular all : 
     gridded told.degree columns lines cells ≡ table_of key.e key.degree s form
 whole key told s form columns lines regular all cells rows at same c r l a k t v =
     let lines_are : lines ≡ within key.e s (lines_of key.degree) =
-    l ∙ ap (λ ys. within told.e s (reverse ys)) a ∙ ap (λ (q : Key). within q.e s (reverse (partitions q.degree))) same in
+    l
+    ∙ ap (λ ys. within told.e s (reverse ys)) a
+    ∙ ap (λ (q : Key). within q.e s (reverse (partitions q.degree))) same in
     ap (λ (q : Key). gridded q.degree columns lines cells) same
     ∙ made key.e key.degree s form columns lines cells
     (c ∙ ap (λ ys. within told.e s (reverse ys)) r ∙ ap (λ (q : Key). within q.e s (reverse (labels key))) same)
