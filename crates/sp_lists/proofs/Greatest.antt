@@ -22,6 +22,7 @@ greatest_within b xs h = fold_within b 0 xs (omega arith) h
 pub within_greatest : (b : ℕ) (xs : List ℕ) → fold max 0 xs ≤ b → AllByRecursion (λ x. x ≤ b) xs
 within_greatest b xs h = within_fold b 0 xs h
 
+-- the images are within a bound where the values are, and back
 pub map_within : {X : Type 0} (f : X → ℕ) (b : ℕ) (xs : List X) → AllByRecursion (λ x. f x ≤ b) xs →
     AllByRecursion (λ n. n ≤ b) (map f xs)
 map_within f b [] h = tt
