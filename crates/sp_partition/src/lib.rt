@@ -17,7 +17,7 @@ pub use partition::{NotPartition, Partition};
 pub use ranking::rank;
 
 /// The greatest degree that the program's commands take.
-pub const DEGREE_LIMIT: u8 = 20;
+pub const DEGREE_LIMIT: u8 = 30;
 
 /// The greatest degree of a `Partition`, and so the greatest number of its parts.
 pub const CAPACITY: u8 = 32;
