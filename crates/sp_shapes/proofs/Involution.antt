@@ -7,8 +7,8 @@ use Rattle.sp_defs.specs.Partition.{part, IsPartition, conjugate, from_one_to}
 use Rattle.sp_lists.proofs.Elements.{le_or_lt}
 use Rattle.sp_shapes.proofs.Columns.{column, column_reaches, first_longest}
 use Rattle.sp_shapes.proofs.Diagram.{IsPartition-tail, same_rows}
-use Rattle.sp_partition.proofs.Conjugates.{reaches, reaches_yes, reaches_no, conjugate_at, length-conjugate, past_end}
-use Rattle.sp_partition.proofs.Conjugates.{conjugate_partition}
+use Rattle.sp_shapes.proofs.Conjugates.{reaches, reaches_yes, reaches_no, conjugate_at, length-conjugate, past_end}
+use Rattle.sp_shapes.proofs.Conjugates.{conjugate_partition}
 
 -- A column has no node below the rows that are long enough.
 column_stops : (parts : List ℕ) (k c : ℕ) → IsPartition parts → slice_index parts k < c → column parts c ≤ k
@@ -89,6 +89,7 @@ first_of_conjugate parts h = at (le_or_lt (part parts 1) 0)
         past_end (conjugate parts) 0 (omega (arith, length-conjugate parts)) ∙ sym (none parts h le)
     at (inr gt) = conjugate_at parts 0 0 gt ∙ first_column parts h
 
+-- the conjugate of the conjugate of a partition is the partition
 pub conjugate_twice : (parts : List ℕ) → IsPartition parts → conjugate (conjugate parts) ≡ parts
 conjugate_twice parts h =
     same_rows (conjugate (conjugate parts)) parts

@@ -1,27 +1,25 @@
 -- The conjugate of a partition is a partition of the same degree.
 use Rattle.std.proofs.Common.{◌≡◌, ℕ, zero, suc, ◌+◌, ◌-◌, ◌<◌, ◌≤◌, min, cond, nat_le, List, [], ◌∷◌, map}
 use Rattle.std.proofs.Common.{length, get_or}
-use Rattle.std.proofs.Common.{slice_index, refl, sym, ◌∙◌, ap, ap₂, subst, arith, sum, sum_by, ◌⊎◌, inl, inr, le-leb}
-use Rattle.std.proofs.Common.{◌++◌, take, slice_set}
+use Rattle.std.proofs.Common.{slice_index, refl, sym, ◌∙◌, ap, subst, arith, sum, sum_by, ◌⊎◌, inl, inr, le-leb}
 use Rattle.std.proofs.lemmas.Bool.{lt-leb}
 use Rattle.std.proofs.lemmas.Grind.{common_steps}
 use Rattle.std.proofs.lemmas.List.FromFn.{get_or-map-range_with_len, length-map-range_with_len}
-use Rattle.std.proofs.lemmas.List.FromFn.{sum_by-map-range_with_len_more, map-range_with_len_more}
+use Rattle.std.proofs.lemmas.List.FromFn.{sum_by-map-range_with_len_more}
 use Rattle.std.proofs.lemmas.List.Sums.{sum_by-cons, sum_by-le-sum_by}
-use Rattle.std.specs.List.{slice_get}
-use Rattle.std.specs.Option.{unwrap_or}
 use Rattle.sp_defs.specs.Partition.{degree, part, IsPartition, conjugate, from_one_to}
 use Rattle.sp_lists.proofs.Elements.{le_or_lt}
 use Rattle.sp_shapes.proofs.Columns.{column, column_reaches, first_longest}
-use Rattle.sp_partition.specs.Held.{IsHeld}
 
 -- Whether a row reaches column c, as a number.
 abbrev pub reaches : ℕ → ℕ → ℕ
 reaches c p = cond (nat_le c p) 1 0
 
+-- it does where the row is as long
 pub reaches_yes : (c p : ℕ) → c ≤ p → reaches c p ≡ 1
 reaches_yes c p h = ap (λ b. cond b 1 0) (le-leb c p h)
 
+-- it does not where the row is shorter
 pub reaches_no : (c p : ℕ) → p < c → reaches c p ≡ 0
 reaches_no c p h = ap (λ b. cond b 1 0) (lt-leb c p h)
 
@@ -37,15 +35,19 @@ reaches_less c p = at (le_or_lt (c + 1) p)
 column_falls : (parts : List ℕ) (c : ℕ) → column parts (c + 1) ≤ column parts c
 column_falls parts c = sum_by-le-sum_by (reaches (c + 1)) (reaches c) parts (reaches_less c)
 
+-- the conjugate has so many rows as the first row has nodes
 pub length-conjugate : (parts : List ℕ) → length (conjugate parts) ≡ part parts 1
 length-conjugate parts = length-map-range_with_len (column parts) 1 (part parts 1)
 
+-- its row k, counted from 0, is column k + 1
 pub conjugate_at : (parts : List ℕ) (k d : ℕ) → k < part parts 1 → get_or (conjugate parts) k d ≡ column parts (k + 1)
 conjugate_at parts k d h = get_or-map-range_with_len (column parts) 1 (part parts 1) k (k + 1) d h (omega arith)
 
+-- past the end of a list of parts there are zeros
 pub past_end : (xs : List ℕ) (k : ℕ) → length xs ≤ k → slice_index xs k ≡ 0
 past_end xs k h = grind (arith, common_steps)
 
+-- the conjugate of a partition is a partition
 pub conjugate_partition : (parts : List ℕ) → IsPartition parts → IsPartition (conjugate parts)
 conjugate_partition parts is = record {
   descending = λ k. falls k (le_or_lt (part parts 1) (k + 1));
@@ -121,6 +123,7 @@ all_columns w (p ∷ parts) h =
       sum_by-cons (λ q. q) p parts,
     )
 
+-- the conjugate has the same degree
 pub degree-conjugate : (parts : List ℕ) → IsPartition parts → degree (conjugate parts) ≡ degree parts
 degree-conjugate parts is =
     columns_sum (part parts 1) parts
@@ -129,30 +132,3 @@ degree-conjugate parts is =
   where
     less : (k : ℕ) → k + 1 - 1 ≡ k
     less k = omega arith
-
-pub conjugate_held : (parts : List ℕ) → IsHeld parts → IsHeld (conjugate parts)
-conjugate_held parts h = record {
-  partition = conjugate_partition parts h.partition;
-  small = let e = degree-conjugate parts h.partition in let s = h.small in omega arith;
-}
-
--- ---- the columns, filled one after the other
-
-take_next : (xs : List ℕ) (k v : ℕ) → k < length xs → take (k + 1) (slice_set xs k v) ≡ take k xs ++ (v ∷ [])
-take_next xs k v h = grind (arith, common_steps)
-
-pub columns_next : (parts columns : List ℕ) (k v : ℕ) → k < length columns →
-    take k columns ≡ map (column parts) (from_one_to k) → v ≡ column parts (k + 1) →
-    take (k + 1) (slice_set columns k v) ≡ map (column parts) (from_one_to (k + 1))
-columns_next parts columns k v h before is =
-    take_next columns k v h ∙ ap₂ (λ xs n. xs ++ (n ∷ [])) before is
-    ∙ sym (map-range_with_len_more (column parts) 1 k (k + 1) (omega arith))
-
-pub columns_held : (parts columns : List ℕ) (width : ℕ) → IsHeld parts → width ≡ part parts 1 →
-    take width columns ≡ map (column parts) (from_one_to width) → IsHeld (take width columns)
-columns_held parts columns width h is lengths =
-    subst IsHeld (sym (lengths ∙ ap (λ w. map (column parts) (from_one_to w)) is)) (conjugate_held parts h)
-
-pub width_is : (parts : List ℕ) → unwrap_or (slice_get parts 0) 0 ≡ part parts 1
-width_is [] = refl
-width_is (p ∷ parts) = refl
