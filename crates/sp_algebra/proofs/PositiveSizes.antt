@@ -1,10 +1,10 @@
 -- Where all coefficients are positive nothing cancels: the size of a sum is the sum of the sizes.
-use Rattle.std.proofs.Common.{◌≡◌, ◌+◌, cond, List, [], ◌∷◌, ◌++◌, map, refl, sym, ◌∙◌, ap, ap₂, arith}
+use Rattle.std.proofs.Common.{◌≡◌, ◌+◌, List, [], ◌∷◌, ◌++◌, map, refl, sym, ◌∙◌, ap, ap₂, arith}
 use Rattle.std.proofs.Common.{ℤ, pos, negsuc, ◌+ℤ◌, ◌*ℤ◌, ◌<ℤ◌, Less, Equal, Greater, int_cmp, sum_by, unsigned_abs}
 use Rattle.std.proofs.lemmas.Int.{ints}
 use Rattle.std.specs.List.{AllByRecursion}
-use Rattle.std.proofs.lemmas.List.Sums.{sum_by-cons, sum_by-append}
-use Rattle.sp_defs.specs.Laurent.{Laurent, put, placed, add_term, collect, plus, times, products, power, sum_over, size}
+use Rattle.std.proofs.lemmas.List.Sums.{sum_by-cons}
+use Rattle.sp_defs.specs.Laurent.{Laurent, placed, add_term, collect, plus, times, products, power, sum_over, size}
 use Rattle.sp_lists.proofs.Elements.{all_append}
 use Rattle.sp_algebra.proofs.Sizes.{size-cons, size-append, size-put}
 use Rattle.sp_algebra.proofs.Positive.{AllPositive, positive_collect, positive_plus}
