@@ -15,13 +15,13 @@ use Rattle.sp_abacus_law.proofs.Falling.{length-down}
 use Rattle.sp_abacus_law.proofs.Numbers.{beta-falls, beads-enough, length-numbers, numbers-falls, numbers-below}
 use Rattle.sp_abacus_law.proofs.Numbers.{shown-numbers, length-beta}
 use Rattle.sp_abacus_law.proofs.Shown.{numbers-shown, shown-partition, shown-short}
-use Rattle.sp_abacus_law.proofs.Sums.{sum-alike}
 use Rattle.sp_abacus_law.proofs.Runners.{fallen, slid-under, runner-falls}
 use Rattle.sp_abacus_law.proofs.Weight.{runner-fallen, fallen-falls, length-fallen, runner-slid, slid-falls}
 use Rattle.sp_abacus_law.proofs.Weight.{length-slid}
 use Rattle.sp_abacus_law.proofs.Weight.{length-runners, runner-short, core-partition}
 use Rattle.sp_abacus_law.proofs.Members.{same-runners, runner-placed, placed-falls}
 use Rattle.sp_abacus_law.proofs.MoreBeads.{fallen-alike, height_more, rounds, quotient-numbers, core-numbers}
+use Rattle.sp_lists.proofs.Sums.{sum-alike}
 
 -- ---- core and quotient determine the partition
 

@@ -12,12 +12,12 @@ use Rattle.sp_lists.proofs.Places.{all_weaken}
 use Rattle.sp_abacus_law.specs.Beads.{down, Falls}
 use Rattle.sp_abacus_law.specs.Combined.{member, placed}
 use Rattle.sp_abacus_law.proofs.Falling.{down-below, falls-filter, down-falls}
-use Rattle.sp_abacus_law.proofs.Sums.{eqb-differ}
+use Rattle.std.proofs.Common.{ne_eqb}
 use Rattle.sp_abacus_law.proofs.Runners.{runner-cons, runner-down}
 
 pub not_member : (n : ℕ) (xs : List ℕ) → AllByRecursion (λ c. c < n) xs → member n xs ≡ false
 not_member n [] h = refl
-not_member n (x ∷ xs) (h, hs) = ap₂ (λ v w. v || w) (eqb-differ x n (inl h)) (not_member n xs hs)
+not_member n (x ∷ xs) (h, hs) = ap₂ (λ v w. v || w) (ne_eqb x n (λ same. omega arith)) (not_member n xs hs)
 
 -- The numbers below n that are in the list, again.
 pub filter-member : (n : ℕ) (bs : List ℕ) → Falls bs → AllByRecursion (λ c. c < n) bs →
@@ -49,7 +49,7 @@ filter-member (suc n) (b ∷ bs) (low, f) (h, hs) =
         others : (cs : List ℕ) → AllByRecursion (λ c. c < n) cs →
             AllByRecursion (λ c. member c (b ∷ bs) ≡ member c bs) cs
         others [] h = tt
-        others (c ∷ cs) (h, hs) = (ap (λ v. v || member c bs) (eqb-differ b c (inr (omega arith))), others cs hs)
+        others (c ∷ cs) (h, hs) = (ap (λ v. v || member c bs) (ne_eqb b c (λ same. omega arith)), others cs hs)
     settle (inr lt) _ more =
         ap (λ v. cond v (n ∷ filter (λ c. member c (b ∷ bs)) (down n)) (filter (λ c. member c (b ∷ bs)) (down n)))
         (not_member n (b ∷ bs) (lt, below))

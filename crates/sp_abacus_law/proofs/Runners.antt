@@ -13,7 +13,7 @@ use Rattle.sp_defs.specs.Abacus.{beta, runner, slid}
 use Rattle.sp_lists.proofs.Elements.{le_or_lt, all_map, all_filter, filter_twice, range_snoc}
 use Rattle.sp_lists.proofs.Places.{all_weaken}
 use Rattle.sp_abacus_law.specs.Beads.{down, Falls}
-use Rattle.sp_abacus_law.proofs.Sums.{eqb-differ}
+use Rattle.std.proofs.Common.{ne_eqb}
 
 pub runner-cons : (e b : ℕ) (bs : List ℕ) (i : ℕ) →
     runner e (b ∷ bs) i ≡ cond (nat_eq (b % e) i) ((b / e) ∷ runner e bs i) (runner e bs i)
@@ -107,7 +107,7 @@ part-down e i k hi h (suc j) hj =
         ≡ cond (nat_lt i (suc j)) (k ∷ down k) (down k)
     settle (inr lt) =
         ap₂ (λ v w. cond v (k ∷ cond w (k ∷ down k) (down k)) (cond w (k ∷ down k) (down k)))
-        (eqb-differ j i (inr lt)) (lt-ltb i j lt)
+        (ne_eqb j i (λ same. omega arith)) (lt-ltb i j lt)
         ∙ sym (ap (λ v. cond v (k ∷ down k) (down k)) (lt-ltb i (suc j) (omega arith)))
     settle (inl le) = exact (eq-or-lt_of_le le)
       where
@@ -120,7 +120,7 @@ part-down e i k hi h (suc j) hj =
             ∙ sym (ap (λ v. cond v (k ∷ down k) (down k)) (lt-ltb i (suc j) (omega arith)))
         exact (inr lt) =
             ap₂ (λ v w. cond v (k ∷ cond w (k ∷ down k) (down k)) (cond w (k ∷ down k) (down k)))
-            (eqb-differ j i (inl lt)) (le-ltb i j (omega arith))
+            (ne_eqb j i (λ same. omega arith)) (le-ltb i j (omega arith))
             ∙ sym (ap (λ v. cond v (k ∷ down k) (down k)) (le-ltb i (suc j) (omega arith)))
 
 pub runner-down : (e i k : ℕ) → i < e → runner e (down (k * e)) i ≡ down k

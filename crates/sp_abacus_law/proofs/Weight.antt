@@ -13,8 +13,9 @@ use Rattle.sp_abacus_law.specs.Beads.{down, Falls}
 use Rattle.sp_abacus_law.proofs.Falling.{length-down, down-falls, falls-filter}
 use Rattle.sp_abacus_law.proofs.Numbers.{shown-beta, beta-falls}
 use Rattle.sp_abacus_law.proofs.Shown.{degree-shown, shown-partition}
-use Rattle.sp_abacus_law.proofs.Sums.{sum-alike, sum-plus, sum-times, length-sum, sum-classes}
+use Rattle.sp_lists.proofs.Sums.{sum-ones}
 use Rattle.sp_abacus_law.proofs.Runners.{runner-falls, runner-sum, fallen, slid-under, runner-under}
+use Rattle.sp_lists.proofs.Sums.{sum-alike, sum-plus, sum-times, sum-classes}
 
 -- ---- numbers by their runners
 
@@ -33,12 +34,12 @@ sum-runners e bs he =
 pub length-runners : (e : ℕ) (bs : List ℕ) → 1 ≤ e →
     length bs ≡ sum_by (λ i. length (runner e bs i)) (range_with_len 0 e)
 length-runners e bs he =
-    length-sum bs
+    sym (sum-ones bs)
     ∙ sum-classes e (λ b. b % e) (λ _. 1) bs (λ b. mod-lt b he)
     ∙ sum-alike (λ i. sum_by (λ _. 1) (filter (λ b. nat_eq (b % e) i) bs)) (λ i. length (runner e bs i))
     (range_with_len 0 e)
     (range_all (λ i. sum_by (λ _. 1) (filter (λ b. nat_eq (b % e) i) bs) ≡ length (runner e bs i)) 0 e
-    (λ i lo hi. sym (length-sum (filter (λ b. nat_eq (b % e) i) bs))
+    (λ i lo hi. sum-ones (filter (λ b. nat_eq (b % e) i) bs)
     ∙ sym (length-map (filter (λ b. nat_eq (b % e) i) bs) (λ b. b / e))))
 
 pub runner-short : (e : ℕ) (bs : List ℕ) (i : ℕ) → length (runner e bs i) ≤ length bs

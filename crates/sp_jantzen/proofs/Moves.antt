@@ -7,7 +7,7 @@ use Rattle.std.specs.List.{AllByRecursion}
 use Rattle.std.proofs.lemmas.List.Sums.{sum_by-set, count_by-le-length}
 use Rattle.sp_defs.specs.Partition.{degree}
 use Rattle.sp_defs.specs.Abacus.{shown}
-use Rattle.sp_lists.proofs.Places.{all_weaken, all_at}
+use Rattle.sp_lists.proofs.Places.{all_set, all_weaken, all_at}
 use Rattle.sp_abacus_law.specs.Beads.{down, Falls}
 use Rattle.sp_abacus_law.proofs.Shown.{degree-shown}
 use Rattle.sp_abacus_law.proofs.Bounds.{falls-small}
@@ -54,12 +54,6 @@ sum-moved xs a b h s =
 
     settle : (u m w x y z : ℕ) → z ≡ y → h ≤ y → u + x ≡ w + (x + h) → m + z ≡ u + (y - h) → m ≡ w
     settle u m w x y z e le p q = omega arith
-
-all_set : {X : Type 0} (P : X → Type 0) (xs : List X) (i : ℕ) (y : X) → P y → AllByRecursion P xs →
-    AllByRecursion P (slice_set xs i y)
-all_set P [] i y k h = tt
-all_set P (x ∷ xs) zero y k (h, hs) = (k, hs)
-all_set P (x ∷ xs) (suc i) y k (h, hs) = (h, all_set P xs i y k hs)
 
 pub moved_below : (xs : List ℕ) (a b h : ℕ) → AreBeads xs → IsStep xs a b h → AllBelow 192 (moved xs a b h)
 moved_below xs a b h beads s =

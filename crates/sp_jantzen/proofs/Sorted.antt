@@ -5,15 +5,19 @@ use Rattle.std.proofs.Common.{◌⊎◌, inl, inr, eq-or-lt_of_le, eq-eqb, lengt
 use Rattle.std.specs.List.{AllByRecursion}
 use Rattle.std.proofs.lemmas.List.Sums.{sum_by-cons}
 use Rattle.std.proofs.lemmas.Bool.Decides.{eqb_tells}
-use Rattle.sp_lists.proofs.Elements.{and_split, all_every}
+use Rattle.sp_lists.proofs.Elements.{all_every}
 use Rattle.sp_lists.proofs.Places.{all_weaken}
 use Rattle.sp_lists.proofs.Counts.{sum-filter}
 use Rattle.sp_abacus_law.specs.Beads.{down, Falls}
 use Rattle.sp_abacus_law.proofs.Falling.{down-falls, falls-filter}
 use Rattle.sp_abacus_law.proofs.Runners.{down-range}
 use Rattle.sp_abacus_law.proofs.Bounds.{filter-same}
-use Rattle.sp_abacus_law.proofs.Sums.{eqb-differ, sum-alike, sum-plus, sum-nought, length-sum}
+use Rattle.std.proofs.Common.{ne_eqb}
+use Rattle.sp_lists.proofs.Sums.{sum-ones}
 use Rattle.sp_module_defs.specs.Jantzen.{occurs, is_distinct, descending}
+use Rattle.std.proofs.lemmas.Bool.{and_parts}
+use Rattle.sp_lists.proofs.Sums.{sum-alike, sum-plus, sum-zeros}
+use Rattle.std.proofs.lemmas.Bool.{not-true}
 
 abbrev pub AllBelow : ℕ → List ℕ → Type 0
 AllBelow n xs = AllByRecursion (λ x. x < n) xs
@@ -32,7 +36,7 @@ below_sum (x ∷ xs) =
 
 none_above : (xs : List ℕ) (n b : ℕ) → AllBelow n xs → n ≤ b → occurs xs b ≡ false
 none_above [] n b h le = refl
-none_above (x ∷ xs) n b (h, hs) le = ap₂ (λ v w. v || w) (eqb-differ x b (inl (omega arith))) (none_above xs n b hs le)
+none_above (x ∷ xs) n b (h, hs) le = ap₂ (λ v w. v || w) (ne_eqb x b (λ same. omega arith)) (none_above xs n b hs le)
 
 pub descending-below : (xs : List ℕ) (n : ℕ) → AllBelow n xs → found_below xs n ≡ descending xs
 unfolding descending found_below
@@ -53,7 +57,7 @@ one_none : (x v n : ℕ) → n ≤ x → sum_by (λ i. cond (nat_eq x i) v 0) (d
 one_none x v zero h = refl
 one_none x v (suc n) h =
     sum_by-cons (λ i. cond (nat_eq x i) v 0) n (down n)
-    ∙ ap₂ (λ b m. cond b v 0 + m) (eqb-differ x n (inr (omega arith))) (one_none x v n (omega arith))
+    ∙ ap₂ (λ b m. cond b v 0 + m) (ne_eqb x n (λ same. omega arith)) (one_none x v n (omega arith))
 
 -- Of the numbers below n one is x.
 one_of : (x v n : ℕ) → x < n → sum_by (λ i. cond (nat_eq x i) v 0) (down n) ≡ v
@@ -73,11 +77,7 @@ one_of x v (suc n) h =
     settle : (x ≡ n) ⊎ (x < n) → (x < n → sum_by (λ i. cond (nat_eq x i) v 0) (down n) ≡ v) →
         cond (nat_eq x n) v 0 + sum_by (λ i. cond (nat_eq x i) v 0) (down n) ≡ v
     settle (inl e) more = ap₂ (λ b m. cond b v 0 + m) (eq-eqb x n e) (one_none x v n (omega arith)) ∙ plain v
-    settle (inr lt) more = ap₂ (λ b m. cond b v 0 + m) (eqb-differ x n (inl lt)) (more lt) ∙ plain' v
-
-not_false : (b : Bool) → not b ≡ true → b ≡ false
-not_false true e = cc
-not_false false e = refl
+    settle (inr lt) more = ap₂ (λ b m. cond b v 0 + m) (ne_eqb x n (λ same. omega arith)) (more lt) ∙ plain' v
 
 -- With one number more, at each place.
 split_first : (f : ℕ → ℕ) (x : ℕ) (xs : List ℕ) (b : ℕ) → occurs xs x ≡ false →
@@ -105,14 +105,14 @@ split_first f x xs b fresh = told (eqb_tells x b)
 
 sum_occurring : (f : ℕ → ℕ) (xs : List ℕ) (n : ℕ) → is_distinct xs ≡ true → AllBelow n xs →
     sum_by (λ b. cond (occurs xs b) (f b) 0) (down n) ≡ sum_by f xs
-sum_occurring f [] n d h = sum-nought (down n)
+sum_occurring f [] n d h = sum-zeros (down n)
 sum_occurring f (x ∷ xs) n d (h, hs) =
-    let apart = and_split (not (occurs xs x)) (is_distinct xs) d in
+    let apart = and_parts (not (occurs xs x)) (is_distinct xs) d in
     sum-alike (λ b. cond (nat_eq x b || occurs xs b) (f b) 0)
     (λ b. cond (nat_eq x b) (f x) 0 + cond (occurs xs b) (f b) 0) (down n)
     (all_every
     (λ b. cond (nat_eq x b || occurs xs b) (f b) 0 ≡ cond (nat_eq x b) (f x) 0 + cond (occurs xs b) (f b) 0) (down n)
-    (λ b. split_first f x xs b (not_false (occurs xs x) apart.0)))
+    (λ b. split_first f x xs b (not-true (occurs xs x) apart.0)))
     ∙ sum-plus (λ b. cond (nat_eq x b) (f x) 0) (λ b. cond (occurs xs b) (f b) 0) (down n)
     ∙ ap₂ (λ m k. m + k) (one_of x (f x) n h) (sum_occurring f xs n apart.1 hs)
     ∙ sym (sum_by-cons f x xs)
@@ -125,7 +125,7 @@ sum-descending f xs d =
     ∙ sum_occurring f xs (sum xs + 1) d (below_sum xs)
 
 pub length-descending : (xs : List ℕ) → is_distinct xs ≡ true → length (descending xs) ≡ length xs
-length-descending xs d = length-sum (descending xs) ∙ sum-descending (λ _. 1) xs d ∙ sym (length-sum xs)
+length-descending xs d = sym (sum-ones (descending xs)) ∙ sum-descending (λ _. 1) xs d ∙ sum-ones xs
 
 -- ---- the walk down the numbers
 

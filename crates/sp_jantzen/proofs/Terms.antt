@@ -16,12 +16,9 @@ use Rattle.sp_module_defs.specs.Jantzen.{term, terms_of_pair, terms_of_bead, jan
 use Rattle.sp_jantzen.specs.Beads.{AreBeads, IsStep}
 use Rattle.sp_jantzen.proofs.Sorted.{descending-falls}
 use Rattle.sp_jantzen.proofs.Moves.{degree-sorted}
+use Rattle.std.proofs.Math.Bool.{and-false}
 
 -- ---- one term
-
-and_false : (b : Bool) → (b && false) ≡ false
-and_false true = refl
-and_false false = refl
 
 pub term-nought : (e : ℕ) (xs : List ℕ) (a b h : ℕ) → step_value e xs a b h ≡ pos 0 → term e xs a b h ≡ []
 unfolding term
@@ -30,7 +27,7 @@ term-nought e xs a b h z =
     let one : List (List ℕ × ℤ) =
     (shown (descending after), sorting_sign after *ℤ step_value e xs a b h) ∷ [] in
     ap (λ v. cond (is_distinct after && not (int_eq v (pos 0))) one []) z
-    ∙ ap (λ v. cond v one []) (and_false (is_distinct after))
+    ∙ ap (λ v. cond v one []) (and-false (is_distinct after))
 
 pub term-meets : (e : ℕ) (xs : List ℕ) (a b h : ℕ) → is_distinct (moved xs a b h) ≡ false → term e xs a b h ≡ []
 unfolding term

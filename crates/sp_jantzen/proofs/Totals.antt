@@ -12,8 +12,7 @@ use Rattle.sp_defs.specs.Partition.{compare, degree, partitions, IsPartitionOf}
 use Rattle.sp_defs.specs.Laurent.{IsLaurent, monomial, one, plus, times, size, int_sum, coefficient, collect, add_term}
 use Rattle.sp_defs.specs.Power.{FockVector, fock_vector, unit, vector_of, entries}
 use Rattle.sp_lists.proofs.Greatest.{greatest_within, map_within}
-use Rattle.sp_lists.proofs.Places.{all_at, all_take}
-use Rattle.sp_shapes.proofs.Order.{all_mono}
+use Rattle.sp_lists.proofs.Places.{all_at, all_take, all_weaken}
 use Rattle.sp_shapes.proofs.Listing.{all_partitions}
 use Rattle.sp_algebra.proofs.Coefficients.{at, at-plus, coefficient-put, same_laurent, IsLaurent-collect}
 use Rattle.sp_algebra.proofs.Laws.{plus_nought, IsLaurent-plus, coefficient-plus, times_one, times_nought}
@@ -119,7 +118,7 @@ pub term_weight : (n : ℕ) (ts : Terms) (kappa : List ℕ) (c : ℤ) → AllByR
 term_weight n ts kappa c units small =
     greatest_within (length ts + 1) (map size_at (partitions n))
     (map_within size_at (length ts + 1) (partitions n)
-    (all_mono (IsPartitionOf n) (λ lambda. size_at lambda ≤ length ts + 1) (partitions n) here (all_partitions n)))
+    (all_weaken (IsPartitionOf n) (λ lambda. size_at lambda ≤ length ts + 1) (partitions n) here (all_partitions n)))
   where
     size_at : List ℕ → ℕ
     size_at lambda =
