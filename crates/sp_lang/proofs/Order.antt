@@ -224,6 +224,7 @@ failed_count : (b : Bool) (y : Option (LineFault × Bool)) → b ≡ true →
 failed_count true y h = refl
 failed_count false y h = absurd (cc)
 
+-- Another number of words is the first fault.
 pub other_count : (places : List Place) (ws : List (List ℕ)) → length ws ≢ length places →
     Some WordCount ≡ first_fault places ws
 unfolding first_fault
@@ -231,6 +232,7 @@ other_count places ws other =
     failed_count (not (eqb (length ws) (length places))) _
     (ap not (ne_eqb (length ws) (length places) other))
 
+-- With as many words as places, the tests find the first fault.
 pub same_count : (verb : Verb) (ws : List (List ℕ)) → length ws ≡ length (places_of verb) →
     first_failing (places_of verb) ws ≡ first_fault (places_of verb) ws
 unfolding first_fault

@@ -1,4 +1,4 @@
-use Rattle.std.proofs.Common.{◌≡◌, ◌-◌, ◌^◌, ap, ◌∙◌, sym, min, arith}
+use Rattle.std.proofs.Common.{◌≡◌, ap, ◌∙◌, sym, min, arith}
 use Rattle.std.specs.Prelude.{Some}
 use Rattle.std.specs.Str.Parse.{digits_value}
 use Rattle.sp_lang.proofs.Digits.{number-yes, number-none}
