@@ -36,9 +36,11 @@ falls-small (b ∷ below) f = (
 
 -- ---- degrees within the partition's own
 
+-- The core has no more nodes than the partition,
 pub degree-core-le : (e : ℕ) (parts : List ℕ) → 1 ≤ e → IsPartition parts → degree (core e parts) ≤ degree parts
 degree-core-le e parts he h = omega (arith, degree-core e parts he h)
 
+-- nor has an entry of the quotient.
 pub degree-runner-le : (e : ℕ) (parts : List ℕ) (i : ℕ) → 1 ≤ e → i < e → IsPartition parts →
     degree (shown (runner e (beta e parts) i)) ≤ degree parts
 degree-runner-le e parts i he hi h =
@@ -55,6 +57,7 @@ degree-runner-le e parts i he hi h =
 
 -- ---- the numbers of the beads slid down
 
+-- What holds of the numbers below n holds of each.
 pub down-at : (P : ℕ → Type 0) (n b : ℕ) → AllByRecursion P (down n) → b < n → P b
 down-at P zero b h lt = absurd (omega arith)
 down-at P (suc n) b (h, hs) lt = settle (le_or_lt n b) (λ k. down-at P n b hs k)

@@ -42,8 +42,8 @@ rounds_few e n q r eq he hn most = (omega arith, all q eq)
     all (suc zero) eq = omega arith
     all (suc (suc q)) eq = omega arith
 
--- For a degree within 32 there are at most 64 beads: where the quotient has a part, e is at most 32, and the rows of the
--- core, the round that they begin and e beads for each part are within 63.
+-- For a degree within 32 there are at most 64 beads: where the quotient has a part, e is at most 32, and the rows of
+-- the core, the round that they begin and e beads for each part are within 63.
 pub beads_for-few : (e : ℕ) (kappa : List ℕ) (q : List (List ℕ)) → 1 ≤ e → e ≤ 64 → IsPartition kappa →
     AllByRecursion IsPartition q → degree kappa + e * sum_by degree q ≤ 32 → beads_for e kappa q ≤ 64
 beads_for-few e kappa q he most hk hq small =

@@ -1,5 +1,5 @@
 -- Distinct numbers in descending order: they fall, and there are as many, of the same sum.
-use Rattle.std.proofs.Common.{◌≡◌, ◌≢◌, ℕ, zero, suc, ◌+◌, ◌-◌, ◌<◌, ◌≤◌, Bool, true, false, cond, ◌||◌, not, nat_eq}
+use Rattle.std.proofs.Common.{◌≡◌, ◌≢◌, ℕ, zero, suc, ◌+◌, ◌-◌, ◌<◌, ◌≤◌, true, false, cond, ◌||◌, not, nat_eq}
 use Rattle.std.proofs.Common.{List, [], ◌∷◌, ◌++◌, filter, length, refl, sym, ◌∙◌, ap, ap₂, subst, sum_by, sum, arith}
 use Rattle.std.proofs.Common.{◌⊎◌, inl, inr, eq-or-lt_of_le, eq-eqb, length-append, append_assoc, append-nil}
 use Rattle.std.specs.List.{AllByRecursion}
@@ -19,6 +19,7 @@ use Rattle.std.proofs.lemmas.Bool.{and_parts}
 use Rattle.sp_lists.proofs.Sums.{sum-alike, sum-plus, sum-zeros}
 use Rattle.std.proofs.lemmas.Bool.{not-true}
 
+-- Each number is below n.
 abbrev pub AllBelow : ℕ → List ℕ → Type 0
 AllBelow n xs = AllByRecursion (λ x. x < n) xs
 
@@ -38,6 +39,7 @@ none_above : (xs : List ℕ) (n b : ℕ) → AllBelow n xs → n ≤ b → occur
 none_above [] n b h le = refl
 none_above (x ∷ xs) n b (h, hs) le = ap₂ (λ v w. v || w) (ne_eqb x b (λ same. omega arith)) (none_above xs n b hs le)
 
+-- The walk may begin at any bound of the numbers.
 pub descending-below : (xs : List ℕ) (n : ℕ) → AllBelow n xs → found_below xs n ≡ descending xs
 unfolding descending found_below
 descending-below xs n h =
@@ -45,6 +47,7 @@ descending-below xs n h =
     (λ b le lt. none_above xs n b h le)
     ∙ ap (filter (occurs xs)) (sym (down-range (sum xs + 1)))
 
+-- The numbers in order fall,
 pub descending-falls : (xs : List ℕ) → Falls (descending xs)
 unfolding descending
 descending-falls xs =
@@ -117,6 +120,7 @@ sum_occurring f (x ∷ xs) n d (h, hs) =
     ∙ ap₂ (λ m k. m + k) (one_of x (f x) n h) (sum_occurring f xs n apart.1 hs)
     ∙ sym (sum_by-cons f x xs)
 
+-- have the same sums
 pub sum-descending : (f : ℕ → ℕ) (xs : List ℕ) → is_distinct xs ≡ true → sum_by f (descending xs) ≡ sum_by f xs
 unfolding found_below
 sum-descending f xs d =
@@ -124,6 +128,7 @@ sum-descending f xs d =
     ∙ sum-filter (occurs xs) f (down (sum xs + 1))
     ∙ sum_occurring f xs (sum xs + 1) d (below_sum xs)
 
+-- and are as many.
 pub length-descending : (xs : List ℕ) → is_distinct xs ≡ true → length (descending xs) ≡ length xs
 length-descending xs d = sym (sum-ones (descending xs)) ∙ sum-descending (λ _. 1) xs d ∙ sum-ones xs
 
@@ -140,6 +145,7 @@ found_no xs n e = ap (λ v. cond v (n ∷ found_below xs n) (found_below xs n)) 
 back : (n : ℕ) → 1 ≤ n → n ≡ suc (n - 1)
 back n k = omega arith
 
+-- Where a number is found there is room.
 pub walk_room : (xs : List ℕ) (n : ℕ) (found : List ℕ) → 1 ≤ n → occurs xs (n - 1) ≡ true → is_distinct xs ≡ true →
     length xs ≤ 64 → found ++ found_below xs n ≡ descending xs → length found < 64
 walk_room xs n found least e d few is =
@@ -152,6 +158,7 @@ walk_room xs n found least e d few is =
         length found < 64
     settle p q r s = omega arith
 
+-- A number that occurs.
 pub walk_yes : (xs : List ℕ) (n : ℕ) (found : List ℕ) → 1 ≤ n → occurs xs (n - 1) ≡ true →
     found ++ found_below xs n ≡ descending xs → (found ++ (n - 1) ∷ []) ++ found_below xs (n - 1) ≡ descending xs
 walk_yes xs n found least e is =
@@ -159,11 +166,13 @@ walk_yes xs n found least e is =
     ∙ ap (λ r. found ++ r) (sym (ap (found_below xs) (back n least) ∙ found_yes xs (n - 1) e))
     ∙ is
 
+-- A number that doesn't.
 pub walk_no : (xs : List ℕ) (n : ℕ) (found : List ℕ) → 1 ≤ n → occurs xs (n - 1) ≡ false →
     found ++ found_below xs n ≡ descending xs → found ++ found_below xs (n - 1) ≡ descending xs
 walk_no xs n found least e is =
     ap (λ r. found ++ r) (sym (ap (found_below xs) (back n least) ∙ found_no xs (n - 1) e)) ∙ is
 
+-- At the end all have been found.
 pub walk_done : (xs : List ℕ) (n : ℕ) (found : List ℕ) → n ≤ 0 → found ++ found_below xs n ≡ descending xs →
     found ≡ descending xs
 unfolding found_below

@@ -70,4 +70,5 @@ returns-clause-small c =
     let done = taken_done c.args.e c.loop-number.number c.heights-heights.result c.loop-number.found.items
     (combined_beads c.args.e c.args.kappa.now c.args.quotient.now) c.args.quotient.now (omega arith)
     c.loop-number.invariant in
-    subst (λ bs. degree (shown bs) ≤ 32) (sym done) (combined_small c.args.e c.args.kappa.now c.args.quotient.now c.requires)
+    subst (λ bs. degree (shown bs) ≤ 32) (sym done)
+    (combined_small c.args.e c.args.kappa.now c.args.quotient.now c.requires)
