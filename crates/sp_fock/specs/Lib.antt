@@ -6,3 +6,4 @@ pub mod Sum
 pub mod Print
 pub mod Growth
 pub mod Cells
+pub mod Rows

@@ -10,10 +10,10 @@ use Rattle.sp_defs.specs.Node.{Node, is_removable}
 use Rattle.sp_defs.specs.Signature.{good, least_good, path_of, path, remove_node, shrink}
 use Rattle.sp_defs.specs.Statements.{IsLabel}
 use Rattle.sp_lists.proofs.Elements.{all_append}
-use Rattle.sp_good_law.proofs.RowRegular.{Corner}
 use Rattle.sp_good_law.proofs.MoveLaw.{move_law}
 use Rattle.sp_partition.specs.Held.{IsHeld}
-use Rattle.sp_partition.proofs.Shrinking.{degree-shrink}
+use Rattle.sp_shapes.proofs.Shrink.{degree-shrink}
+use Rattle.sp_shapes.proofs.Corners.{removable_corner}
 
 -- ---- what a call answered
 
@@ -73,18 +73,6 @@ empty_at_end e (p ∷ parts) h none =
 
 -- ---- the path
 
-pub corner_of : (parts : List ℕ) (row : ℕ) → is_removable parts (row, part parts row) ≡ true → Corner parts (row - 1)
-corner_of parts row h = subst (λ n. slice_index parts n < slice_index parts (row - 1)) back less
-  where
-    first : 0 < row
-    first = grind (arith, nat_tests)
-
-    less : part parts (row + 1) < part parts row
-    less = grind (arith, nat_tests)
-
-    back : row + 1 - 1 ≡ row - 1 + 1
-    back = omega (arith, first)
-
 path-end : (n e : ℕ) (parts : List ℕ) → least_good e 0 e parts ≡ None → path_of n e parts ≡ []
 unfolding path_of
 path-end zero e parts none = refl
@@ -125,7 +113,7 @@ module _ (e : ℕ) (mu at residues : List ℕ) (h : Descended e mu at residues) 
   module _ (i row column : ℕ) (some : least_good e 0 e at ≡ Some (i, (row, column)))
       (removes : is_removable at (row, part at row) ≡ true) where
     pub one_less : degree (shrink (row - 1) at) + 1 ≡ degree at
-    one_less = degree-shrink (row - 1) at h.label.partition (corner_of at row removes)
+    one_less = degree-shrink (row - 1) at h.label.partition (removable_corner at row removes)
 
     pub descended_more : (at' residues' : List ℕ) → at' ≡ shrink (row - 1) at → residues' ≡ residues ++ (i ∷ []) →
         i < e → IsHeld at' → is_regular e (shrink (row - 1) at) ≡ true → Descended e mu at' residues'

@@ -9,8 +9,9 @@ ghost use Rattle.sp_defs.specs.Text.{polynomial_text};
 ghost use Rattle.sp_defs.specs.Within.{PowersWithin, ProductWithin};
 ghost use Rattle.sp_laurent.specs.Held.{IsHeld, power_limit};
 
-use crate::mirror::{lifted, negated, push_mirrored};
-use crate::sums::{is_within, push_term, size_of, split_below, split_first, with_product};
+use crate::mirror::{lifted, negated, push_mirrored, shifted};
+use crate::products::add_product;
+use crate::sums::{is_within, push_term, size_of, split_below, split_first};
 use crate::text::print_terms;
 use std::alloc::{AllocError, Global};
 use std::marker::Model;
@@ -18,6 +19,7 @@ use std::marker::Model;
 mod fault;
 mod mirror;
 mod parsing;
+mod products;
 mod reader;
 mod sums;
 mod text;
@@ -210,8 +212,47 @@ impl Laurent {
         if a.is_zero() || b.is_zero() {
             return Ok(());
         }
-        self.terms = with_product(alloc, &self.terms, &a.terms, &b.terms)?;
+        let mut sum = Vec::from_slice(alloc, &self.terms)?;
+        add_product(&mut sum, &a.terms, &b.terms)?;
+        self.terms = sum;
         Ok(())
+    }
+
+    /// This polynomial and `a * b`. It is refused as too large where the size of this polynomial, and the product of
+    /// the sizes of `a` and `b`, sum up to more than the limit. The sum is made in this polynomial's own memory, which
+    /// grows only where the sum has more terms.
+    pub fn plus_product(
+        self,
+        a: &Laurent,
+        b: &Laurent,
+        limit: u128,
+    ) -> Result<Laurent, LaurentFault>
+        requires least { 1 ≤ limit }
+        requires most { limit < 2 ^ 127 }
+        requires within { ProductWithin power_limit a.now b.now }
+        ensures ok { IfOk result (λ p. p ≡ plus self (times a.now b.now)) }
+        ensures too_large { IsErrOf result LaurentFault.TooLarge ↔ (limit < size self + size a.now * size b.now) }
+        ensures powers { (d : ℕ) → PowersWithin d self → ProductWithin d a.now b.now → IfOk result (λ p.
+            PowersWithin d p) }
+        ensures held { IfOk result (λ p. IsHeld p) }
+    {
+        if !is_within(limit, self.size(), a.size(), b.size()) {
+            return Err(LaurentFault::TooLarge);
+        }
+        let mut terms = self.terms;
+        add_product(&mut terms, &a.terms, &b.terms)?;
+        Ok(Laurent { terms })
+    }
+
+    /// The product of this polynomial and `v^power`, in memory of its own.
+    pub fn shifted(&self, alloc: Global, power: i32) -> Result<Laurent, AllocError>
+        requires { ProductWithin power_limit (monomial power (pos 1)) self.now }
+        ensures ok { IfOk result (λ p. p ≡ times (monomial power (pos 1)) self.now) }
+        ensures held { IfOk result (λ p. IsHeld p) }
+    {
+        Ok(Laurent {
+            terms: shifted(alloc, &self.terms, power)?,
+        })
     }
 
     /// Appends the canonical text, as `v^-1+2+v`.

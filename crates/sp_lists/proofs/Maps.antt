@@ -1,5 +1,6 @@
 -- Lists mapped, filtered or reversed: what does not depend on the order of the two.
-use Rattle.std.proofs.Common.{◌≡◌, ◌&&◌, ◌||◌, Bool, true, false, cond, List, [], ◌∷◌, ◌++◌, map, filter, reverse, refl}
+use Rattle.std.proofs.Common.{◌≡◌, ◌&&◌, ◌||◌, Bool, true, false, cond, List, [], ◌∷◌, ◌++◌, map, filter, reverse}
+use Rattle.std.proofs.Common.{refl}
 use Rattle.std.proofs.Common.{sym, ◌∙◌, ap, ap₂}
 use Rattle.std.specs.List.{AllByRecursion, list_all, list_any}
 use Rattle.std.proofs.Math.Bool.{and-true, and_comm, or-false, or_comm}
@@ -38,6 +39,7 @@ filter-map t f xs = sym (map-filter f (λ x. t (f x)) t xs (each xs))
 
 -- ---- reversed lists
 
+-- what passes, in the other order
 pub filter-reverse : {X : Type 0} (t : X → Bool) (xs : List X) → filter t (reverse xs) ≡ reverse (filter t xs)
 filter-reverse t [] = refl
 filter-reverse t (x ∷ xs) =
@@ -50,6 +52,7 @@ filter-reverse t (x ∷ xs) =
     last true = sym (reverse-append (x ∷ []) (filter t xs))
     last false = append-nil (reverse (filter t xs))
 
+-- whether all pass doesn't depend on the order
 pub list_all-reverse : {X : Type 0} (t : X → Bool) (xs : List X) → list_all t (reverse xs) ≡ list_all t xs
 list_all-reverse t [] = refl
 list_all-reverse t (x ∷ xs) =
@@ -58,6 +61,7 @@ list_all-reverse t (x ∷ xs) =
     ∙ and_comm (list_all t (reverse xs)) (list_all t (x ∷ []))
     ∙ ap₂ (λ a b. a && b) (and-true (t x)) (list_all-reverse t xs)
 
+-- nor does whether some element passes
 pub list_any-reverse : {X : Type 0} (t : X → Bool) (xs : List X) → list_any t (reverse xs) ≡ list_any t xs
 list_any-reverse t [] = refl
 list_any-reverse t (x ∷ xs) =

@@ -1,5 +1,6 @@
 -- Occurrence: x is one of the elements of a list.
-use Rattle.std.proofs.Common.{◌≡◌, ℕ, zero, suc, ◌+◌, ◌<◌, ◌≤◌, Bool, true, false, cond, List, [], ◌∷◌, ◌++◌, map, filter}
+use Rattle.std.proofs.Common.{◌≡◌, ℕ, zero, suc, ◌+◌, ◌<◌, ◌≤◌, Bool, true, false, cond, List, [], ◌∷◌, ◌++◌, map}
+use Rattle.std.proofs.Common.{filter}
 use Rattle.std.proofs.Common.{flat_map, reverse, drop, length, refl, sym, ◌∙◌, ap, ap₂, subst, arith, ◌⊎◌, inl, inr}
 use Rattle.std.proofs.Common.{eq-or-lt_of_le, Contains, ◌||◌}
 use Rattle.std.specs.List.{AllByRecursion, list_any, range_with_len}
@@ -39,6 +40,7 @@ occurs_left x (y ∷ xs) ys (inl e) = inl e
 occurs_left x (y ∷ xs) ys (inr h) = inr (occurs_left x xs ys h)
 occurs_left x [] ys h = absurd h
 
+-- in the second of two lists joined
 pub occurs_right : {X : Type 0} (x : X) (xs ys : List X) → Occurs x ys → Occurs x (xs ++ ys)
 occurs_right x [] ys h = h
 occurs_right x (y ∷ xs) ys h = inr (occurs_right x xs ys h)
@@ -117,6 +119,7 @@ contains x (y ∷ xs) (inr o) = later (contains x xs o)
     later : Contains xs x → Contains (y ∷ xs) x
     later (k, lt, at) = (suc k, omega arith, at)
 
+-- an element at a place occurs
 pub occurs : {X : Type 0} (x : X) (xs : List X) → Contains xs x → Occurs x xs
 occurs x [] (k, lt, at) = absurd (omega arith)
 occurs x (y ∷ xs) (zero, lt, at) = inl (sym at)

@@ -1,6 +1,7 @@
 -- Sums over a list: of functions that agree, of sums and products, of one term, and class by class.
 use Rattle.std.proofs.Common.{◌≡◌, ℕ, zero, suc, ◌+◌, ◌*◌, ◌<◌, ◌≤◌, Bool, true, false, cond, nat_eq, List, []}
-use Rattle.std.proofs.Common.{◌∷◌, filter, length, refl, sym, ◌∙◌, ap, ap₂, arith, sum_by, eq-eqb, ne_eqb, ◌⊎◌, inl, inr}
+use Rattle.std.proofs.Common.{◌∷◌, filter, length, refl, sym, ◌∙◌, ap, ap₂, arith, sum_by, eq-eqb, ne_eqb, ◌⊎◌, inl}
+use Rattle.std.proofs.Common.{inr}
 use Rattle.std.proofs.Common.{eq-or-lt_of_le, add-zero, zero-add}
 use Rattle.std.specs.List.{AllByRecursion, range_with_len}
 use Rattle.std.proofs.lemmas.List.Sums.{sum_by-cons}
@@ -25,6 +26,7 @@ sum-plus f g (x ∷ xs) =
       sum-plus f g xs,
     )
 
+-- the sum of a multiple
 pub sum-times : {X : Type 0} (e : ℕ) (f : X → ℕ) (xs : List X) → sum_by (λ x. e * f x) xs ≡ e * sum_by f xs
 sum-times e f [] = omega arith
 sum-times e f (x ∷ xs) =
@@ -41,6 +43,7 @@ pub sum-zeros : {X : Type 0} (xs : List X) → sum_by (λ _. 0) xs ≡ 0
 sum-zeros [] = refl
 sum-zeros (x ∷ xs) = omega (arith, sum_by-cons (λ _. 0) x xs, sum-zeros xs)
 
+-- the sum of ones
 pub sum-ones : {X : Type 0} (xs : List X) → sum_by (λ _. 1) xs ≡ length xs
 sum-ones [] = refl
 sum-ones (x ∷ xs) = omega (arith, sum-ones xs, sum_by-cons (λ _. 1) x xs)

@@ -37,7 +37,7 @@ digits_less [] (y ∷ ys) = true
 digits_less (x ∷ xs) [] = false
 digits_less (x ∷ xs) (y ∷ ys) = cond (nat_eq x y) (digits_less xs ys) (nat_lt x y)
 
-heavier : (x y p v w : ℕ) → x < y → v < p → x * p + v < y * p + w
+pub heavier : (x y p v w : ℕ) → x < y → v < p → x * p + v < y * p + w
 heavier x y p v w lt small = omega (arith, mul-le-mul_right p (above x y lt), spread x p)
   where
     above : (x y : ℕ) → x < y → x + 1 ≤ y

@@ -5,7 +5,7 @@ use Rattle.std.specs.Cmp.{both_ways}
 use Rattle.sp_defs.specs.Partition.{IsPartition, is_regular}
 use Rattle.sp_shapes.proofs.Regular.{index_short, descends, regular_gap}
 use Rattle.sp_shapes.proofs.Grow.{full_rows}
-use Rattle.sp_good_law.proofs.RowRegular.{rows_regular}
+use Rattle.sp_shapes.proofs.RowRegular.{rows_regular}
 use Rattle.sp_partition.specs.Nodes.{Differ}
 
 pub differ_regular : (e : ℕ) (parts : List ℕ) → 2 ≤ e → IsPartition parts → Differ (e - 1) parts →

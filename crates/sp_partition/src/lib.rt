@@ -3,7 +3,9 @@
 
 mod conjugate;
 mod dominance;
+mod eights;
 mod items;
+mod law;
 mod listing;
 mod order;
 mod partition;
@@ -12,6 +14,7 @@ mod reader;
 mod text;
 
 pub use items::Items;
+pub use law::values_law;
 pub use listing::{all_of, regular_of};
 pub use partition::{NotPartition, Partition};
 pub use ranking::rank;
