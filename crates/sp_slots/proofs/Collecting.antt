@@ -1,5 +1,5 @@
 -- The entries of a tally, collected place by place.
-use Rattle.std.proofs.Common.{◌≡◌, ◌≢◌, ℕ, suc, ◌+◌, ◌<◌, ◌≤◌, true, false, cond, List, [], ◌∷◌, ◌++◌, map, filter, take}
+use Rattle.std.proofs.Common.{◌≡◌, ◌≢◌, ℕ, ◌+◌, ◌<◌, true, cond, List, [], ◌∷◌, ◌++◌, map, filter, take}
 use Rattle.std.proofs.Common.{length, get_or, nat_lt, refl, sym, ◌∙◌, ap, ap₂, subst, arith, lt-ltb}
 use Rattle.std.proofs.lemmas.List.{take_more, map-append, append-nil, get_or_default}
 use Rattle.std.specs.List.{AllByRecursion}

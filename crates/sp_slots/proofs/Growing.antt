@@ -9,7 +9,7 @@ use Rattle.sp_algebra.proofs.Laws.{plus_nought, times_nought, IsLaurent-plus}
 use Rattle.sp_algebra.proofs.Sizes.{size_plus, size_times, size-negated}
 use Rattle.sp_defs.specs.Partition.{compare, partitions, Ascending, IsPartitionOf, IsEarlier}
 use Rattle.sp_defs.specs.Laurent.{Laurent, IsLaurent, plus, times, negate, size}
-use Rattle.sp_defs.specs.Power.{Entries, FockVector, vector_of, greatest}
+use Rattle.sp_defs.specs.Power.{Entries, FockVector, vector_of}
 use Rattle.sp_lists.proofs.Elements.{le_or_lt}
 use Rattle.sp_lists.proofs.Greatest.{greatest_within, within_greatest, map_within, within_map}
 use Rattle.sp_lists.proofs.Places.{all_at, all_places, all_set}

@@ -1,5 +1,5 @@
 -- The entries of a vector by the places of their partitions.
-use Rattle.std.proofs.Common.{◌≡◌, ℕ, ◌<◌, List, [], map, length, get_or, sym, ◌∙◌, ap, subst, arith}
+use Rattle.std.proofs.Common.{◌≡◌, ℕ, ◌<◌, List, [], length, get_or, sym, ◌∙◌, ap, subst, arith}
 use Rattle.std.proofs.lemmas.List.{length-map, get_or-map}
 use Rattle.sp_defs.specs.Partition.{partitions}
 use Rattle.sp_defs.specs.Laurent.{Laurent}

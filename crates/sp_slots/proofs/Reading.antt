@@ -4,8 +4,8 @@ use Rattle.std.proofs.Common.{refl, sym, ◌∙◌, ap, ap₂, subst, arith, Les
 use Rattle.std.proofs.lemmas.List.{length-map}
 use Rattle.std.specs.List.{AllByRecursion}
 use Rattle.sp_defs.specs.Partition.{compare, partitions, Ascending, IsPartitionOf, IsEarlier}
-use Rattle.sp_defs.specs.Laurent.{Laurent, IsLaurent, size}
-use Rattle.sp_defs.specs.Power.{Vector, FockVector, fock_vector, entries, vector_of, IsVector}
+use Rattle.sp_defs.specs.Laurent.{Laurent, size}
+use Rattle.sp_defs.specs.Power.{Vector, FockVector, entries, vector_of, IsVector}
 use Rattle.sp_lists.proofs.Elements.{all_every, all_map}
 use Rattle.sp_lists.proofs.Maps.{map-alike}
 use Rattle.sp_lists.proofs.Occurrence.{Occurs, at_occurs}

@@ -52,7 +52,6 @@ impl Slot {
     /// With `a` times `b` added. The total grows by the product of their sizes: past the limit it is too large.
     pub(crate) fn plus_product(
         self,
-        alloc: Global,
         a: &Laurent,
         b: &Laurent,
         limit: u128,
@@ -66,15 +65,14 @@ impl Slot {
         ensures too_large { IsErrOf result FockFault.TooLarge →
             limit < self.total + size a.now * size b.now }
     {
-        let Slot {
-            mut coefficient,
-            total,
-        } = self;
+        let Slot { coefficient, total } = self;
         let Some(total) = sum_within(total, a.size(), b.size(), limit) else {
             return Err(FockFault::TooLarge);
         };
-        coefficient.add_scaled(alloc, a, b, limit)?;
-        Ok(Slot { coefficient, total })
+        Ok(Slot {
+            coefficient: coefficient.plus_product(a, b, limit)?,
+            total,
+        })
     }
 }
 

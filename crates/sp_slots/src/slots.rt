@@ -37,11 +37,7 @@ impl Model for Slots {
 
 impl Slots {
     /// The vector, with the sizes of its polynomials as the totals. `all` are the partitions of its degree.
-    pub fn from_vector(
-        alloc: Global,
-        all: &[Partition],
-        v: &Vector,
-    ) -> Result<Slots, AllocError>
+    pub fn from_vector(alloc: Global, all: &[Partition], v: &Vector) -> Result<Slots, AllocError>
         requires { all.now ≡ partitions v.now.degree }
         ensures { IfOk result (λ slots. slots ≡ tally_of v.now) }
     {
@@ -92,7 +88,7 @@ impl Slots {
         for k in 0..pairs.len() {
             let index = usize::from(indices[k]);
             let slot = mem::replace(&mut slots[index], Slot::empty(alloc));
-            match slot.plus_product(alloc, &negated, &pairs[k].1, limit) {
+            match slot.plus_product(&negated, &pairs[k].1, limit) {
                 Ok(grown) => slots[index] = grown,
                 Err(fault) => return Err(fault),
             }

@@ -2,7 +2,6 @@ use Rattle.std.proofs.Common.{◌≡◌, ℕ, List, map, take, length, sym, ◌�
 use Rattle.std.proofs.Math.Seq.{take-length}
 use Rattle.sp_defs.specs.Partition.{partitions}
 use Rattle.sp_defs.specs.Power.{FockVector, vector_of}
-use Rattle.sp_fock.specs.Held.{IsHeld}
 use Rattle.sp_slots.specs.declared.slot.Slot.{Slot}
 use Rattle.sp_slots.specs.Slot.{sized}
 use Rattle.sp_slots.specs.Slots.{AreSlots, tally_in}

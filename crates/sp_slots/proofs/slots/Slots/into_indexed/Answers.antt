@@ -2,12 +2,11 @@ use Rattle.std.proofs.Common.{◌≡◌, ℕ, ◌+◌, ◌<◌, List, [], ◌∷
 use Rattle.std.proofs.lemmas.List.{get_or_default}
 use Rattle.std.specs.declared.alloc.Global.{Global}
 use Rattle.sp_defs.specs.Laurent.{Laurent}
-use Rattle.sp_partition.specs.Held.{IsHeld as IsHeldPartition}
 use Rattle.sp_laurent.specs.Held.{IsHeld as IsHeldPolynomial}
 use Rattle.std.proofs.Math.Seq.{take-length}
 use Rattle.sp_defs.specs.Partition.{partitions}
 use Rattle.sp_defs.specs.Power.{FockVector, Entries}
-use Rattle.sp_fock.specs.Held.{IsHeld, held_as}
+use Rattle.sp_fock.specs.Held.{held_as}
 use Rattle.sp_fock_law.specs.Tally.{TallyValue}
 use Rattle.sp_slots.specs.declared.slot.Slot.{Slot}
 use Rattle.sp_slots.specs.Slots.{coefficient_in, AreSlots}

@@ -1,9 +1,9 @@
-use Rattle.std.proofs.Common.{◌≡◌, ℕ, ◌+◌, ◌*◌, ◌<◌, ◌≤◌, List, [], length, get_or, take, refl, sym, ◌∙◌, ap, ap₂, subst, arith, Err}
+use Rattle.std.proofs.Common.{◌≡◌, ℕ, ◌+◌, ◌<◌, ◌≤◌, List, length, get_or, refl, sym, ◌∙◌, ap, ap₂, subst, arith, Err}
 use Rattle.std.proofs.lemmas.List.{get_or_default, set-set}
 use Rattle.std.proofs.Math.Seq.{take-length}
 use Rattle.std.specs.List.{AllByRecursion}
-use Rattle.sp_defs.specs.Partition.{partitions, IsPartitionOf}
-use Rattle.sp_defs.specs.Laurent.{Laurent, negate, size}
+use Rattle.sp_defs.specs.Partition.{IsPartitionOf}
+use Rattle.sp_defs.specs.Laurent.{Laurent, negate}
 use Rattle.sp_defs.specs.Power.{FockVector}
 use Rattle.sp_defs.specs.Within.{ProductWithin}
 use Rattle.sp_lists.proofs.Places.{all_at}
