@@ -10,7 +10,6 @@ use Rattle.sp_defs.specs.Node.{Node, is_addable}
 use Rattle.sp_defs.specs.Signature.{path, cogood, climb, add_node, grow}
 use Rattle.sp_lists.proofs.Elements.{le_or_lt, all_left, all_right}
 use Rattle.sp_shapes.proofs.Corners.{addable_room}
-use Rattle.sp_shapes.proofs.Regular.{index_short}
 use Rattle.sp_shapes.proofs.Listing.{IsPartition-nil}
 use Rattle.sp_shapes.proofs.Grow.{degree-grow}
 use Rattle.sp_partition.specs.Held.{IsHeld}
@@ -19,6 +18,7 @@ use Rattle.sp_good.specs.Climb.{negated_path, Stops}
 
 -- ---- one residue after the other
 
+-- Two ways up, one after the other.
 pub climb-append : (e : ℕ) (xs ys parts reached : List ℕ) → climb e xs parts ≡ Some reached →
     climb e (xs ++ ys) parts ≡ climb e ys reached
 unfolding climb
@@ -35,6 +35,7 @@ climb-append e (i ∷ xs) ys parts reached h =
     settle None more h = let no : ◌≡◌ {A = Option (List ℕ)} None (Some reached) = h in cc
     settle (Some x) more h = more x h
 
+-- A way that stops is not gone on with.
 pub climb-lost : (e : ℕ) (xs ys parts : List ℕ) → climb e xs parts ≡ None → climb e (xs ++ ys) parts ≡ None
 unfolding climb
 climb-lost e [] ys parts h = let no : ◌≡◌ {A = Option (List ℕ)} (Some parts) None = h in cc
@@ -194,6 +195,7 @@ pub record Climbed (e : ℕ) (ups rest at : List ℕ) (step : ℕ) : Type 0 wher
   pub few : length ups ≤ 32
   pub below : AllByRecursion (λ i. i < e) rest
 
+-- At the start nothing is climbed.
 pub climbed_start : (e : ℕ) (mu residues : List ℕ) → residues ≡ path e mu → length residues ≡ degree mu → IsHeld mu →
     AllByRecursion (λ i. i < e) residues → Climbed e (negated_path e mu) residues [] 0
 unfolding climb
@@ -254,6 +256,7 @@ module _ (e : ℕ) (ups rest at above : List ℕ) (step r : ℕ) (h : Climbed e 
     none = none;
   }
 
+-- After the last residue the way is climbed.
 pub climbed_all : (e : ℕ) (ups rest at : List ℕ) (step : ℕ) → length rest ≡ 0 → Climbed e ups rest at step →
     climb e ups [] ≡ Some at
 climbed_all e ups (r ∷ rest) at step none h = absurd (omega arith)

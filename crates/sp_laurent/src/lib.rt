@@ -2,8 +2,8 @@
 #![tactic(auto)]
 
 ghost use Rattle.std.specs.Prelude.{◌≡◌, ℕ, ◌+◌, ◌*◌, ◌^◌, ◌<◌, ◌≤◌, ◌↔◌, unsigned_abs, IfOk, OnOk, OnErr, IsErrOf};
-ghost use Rattle.std.specs.Prelude.{IsTrue, [], ◌++◌, pos, neg_ℤ, map, reverse};
-ghost use Rattle.sp_defs.specs.Laurent.{IsPositive, coefficient, size, monomial, plus, times, negate, bar, lift};
+ghost use Rattle.std.specs.Prelude.{IsTrue, [], List, ℤ, ◌+ℤ◌, ◌-ℤ◌, ◌*ℤ◌, ◌++◌, pos, neg_ℤ, map, reverse};
+ghost use Rattle.sp_defs.specs.Laurent.{IsPositive, IsBarInvariant, coefficient, int_sum, size, monomial, plus, times, negate, bar, lift};
 ghost use Rattle.sp_defs.specs.Laurent.{value_at_one};
 ghost use Rattle.sp_defs.specs.Text.{polynomial_text};
 ghost use Rattle.sp_defs.specs.Within.{PowersWithin, ProductWithin};
@@ -17,6 +17,7 @@ use std::alloc::{AllocError, Global};
 use std::marker::Model;
 
 mod fault;
+mod law;
 mod mirror;
 mod parsing;
 mod products;
@@ -26,6 +27,8 @@ mod text;
 mod values;
 
 pub use fault::{LaurentFault, ParseFault};
+pub use law::values_law;
+pub use sums::without_product;
 pub use text::print_term;
 pub use values::TooLarge;
 
@@ -178,6 +181,12 @@ impl Laurent {
         requires most { limit < 2 ^ 127 }
         ensures ok { IfOk result (λ p. p ≡ lift self.now) }
         ensures too_large { IsErrOf result LaurentFault.TooLarge ↔ (limit < size (lift self.now)) }
+
+        // It is the only polynomial that is invariant and leaves, taken from this one, only positive powers.
+        ensures invariant { IfOk result (λ p. IsBarInvariant p) }
+        ensures rest { IfOk result (λ p. IsPositive (plus self.now (negate p))) }
+        ensures unique { (a : List (ℤ × ℤ)) → IsBarInvariant a → IsPositive (plus self.now (negate a))
+            → IfOk result (λ p. a ≡ p) }
     {
         let (below, constant) = self.lower_half();
         if 2 * size_of(below) + constant.unsigned_abs() > limit {
@@ -205,6 +214,10 @@ impl Laurent {
         ensures err { OnErr result (self.new ≡ self.old) }
         ensures powers { (d : ℕ) → PowersWithin d self.old → ProductWithin d a.now b.now → PowersWithin d self.new }
         ensures held { IsHeld self.new }
+
+        // The coefficient at j is that of before and, for each term c * v^k of `a`, c times that of `b` at j - k.
+        ensures coefficients { (j : ℤ) → OnOk result (coefficient self.new j ≡ coefficient self.old j +ℤ int_sum (
+            map (λ t. t.1 *ℤ coefficient b.now (j -ℤ t.0)) a.now)) }
     {
         if !is_within(limit, self.size(), a.size(), b.size()) {
             return Err(LaurentFault::TooLarge);

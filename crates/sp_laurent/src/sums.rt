@@ -1,10 +1,8 @@
 //! Sums of ascending lists of terms.
-ghost use Rattle.std.specs.Prelude.{◌≡◌, ◌+◌, ◌*◌, ◌^◌, ◌<◌, ◌≤◌, unsigned_abs, IfOk, OnOk, IsTrue, ◌↔◌, [], ◌∷◌};
+ghost use Rattle.std.specs.Prelude.{◌≡◌, ◌+◌, ◌*◌, ◌^◌, ◌<◌, ◌≤◌, unsigned_abs, IfOk, OnOk, IsTrue, SomeIff, ◌-◌, ◌↔◌};
 ghost use Rattle.std.specs.Prelude.{◌++◌, ◌<ℤ◌, ◌≤ℤ◌};
 ghost use Rattle.std.specs.List.{AllByRecursion};
-ghost use Rattle.sp_defs.specs.Laurent.{IsLaurent, size, monomial, add_term, plus, times};
-ghost use Rattle.sp_defs.specs.Within.{ProductWithin};
-ghost use Rattle.sp_laurent.specs.Held.{power_limit};
+ghost use Rattle.sp_defs.specs.Laurent.{IsLaurent, size, monomial};
 
 use crate::Term;
 use std::alloc::{AllocError, Global};
@@ -27,6 +25,16 @@ pub(crate) fn is_within(limit: u128, size: u128, a: u128, b: u128) -> bool
             None => false,
         },
         None => false,
+    }
+}
+
+/// The room that a product leaves, or `None` where it doesn't fit. So a sum of products is held within a limit.
+pub fn without_product(room: u128, a: u128, b: u128) -> Option<u128>
+    ensures { SomeIff result (a * b ≤ room) (room - a * b) }
+{
+    match a.checked_mul(b) {
+        Some(product) => room.checked_sub(product),
+        None => None,
     }
 }
 

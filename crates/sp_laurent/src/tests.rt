@@ -36,7 +36,7 @@ fn adds_in_a_slot(rt: HostRuntime) -> Result<(), Fail> {
     let taken = std::mem::replace(&mut slots[0], Laurent::zero(alloc));
     slots[0] = taken.plus_product(&v, &minus, 3)?;
     assert_eq!(rt; slots[0].terms(), [(2, 1)].as_slice());
-    assert_eq!(rt; slots[0].shifted(alloc, -3)?.terms(), [(-1, 1)].as_slice());
+    assert_eq!(rt; v.shifted(alloc, -3)?.terms(), [(-2, 1)].as_slice());
     Ok(())
 }
 

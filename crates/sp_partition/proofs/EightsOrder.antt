@@ -74,6 +74,7 @@ eight_bytes k xs h = all_places (λ x. x < 256) (eight k xs) 0 (λ i lt. byte i 
     byte : (i : ℕ) → i < 8 → slice_index (eight k xs) i < 256
     byte i lt = subst (λ n. n < 256) (sym (get_or-take 8 (drop k xs) i 0 lt ∙ get_or-drop k xs i 0)) (h (k + i))
 
+-- The numbers that the code makes of two eights stand in their order.
 pub eight_order : (k : ℕ) (xs ys : List ℕ) → k + 8 ≤ 32 → length xs ≡ 32 → length ys ≡ 32 →
     ((i : ℕ) → slice_index xs i < 256) → ((i : ℕ) → slice_index ys i < 256) →
     nat_cmp (from_be_bytes w64 (eight k xs)) (from_be_bytes w64 (eight k ys)) ≡ compare (eight k xs) (eight k ys)

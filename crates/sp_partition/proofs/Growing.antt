@@ -85,6 +85,7 @@ grows_held degree_is count array now row is h adds below = record {
           ∙ set-grow CAPACITY (row - 1) now room.there place;
     }
 
+-- The fields after a node more, from those before it.
 pub grows : (degree_is count : ℕ) (array now : List ℕ) (row : ℕ) → IsPadded degree_is count array →
     take count array ≡ now →
     true ≡ is_addable now (row, part now row + 1) → degree_is ≢ CAPACITY → Grows degree_is count array now row

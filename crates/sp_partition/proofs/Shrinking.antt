@@ -60,9 +60,11 @@ less_at array k = slice_set array k (slice_index array k - 1)
 abbrev pub parts_left : ℕ → ℕ → ℕ
 parts_left count part = count - cond (nat_eq part 0) 1 0
 
+-- A part that is gone leaves one part less.
 pub one_less : (count part : ℕ) → part ≡ 0 → count - 1 ≡ parts_left count part
 one_less count part e = ap (λ b. count - cond b 1 0) (sym (eq-eqb part 0 e))
 
+-- A part that is left leaves as many.
 pub as_many : (count part : ℕ) → part ≢ 0 → count ≡ parts_left count part
 as_many count part n = whole count ∙ ap (λ b. count - cond b 1 0) (sym (ne_eqb part 0 n))
   where
@@ -121,6 +123,7 @@ shrinks_held degree_is count left array now row is h removes counted = record {
           ∙ set-shrink CAPACITY (row - 1) now h.partition corner (few_parts now h);
     }
 
+-- The fields after a node less, from those before it.
 pub shrinks : (degree_is count left : ℕ) (array now : List ℕ) (row : ℕ) → IsPadded degree_is count array →
     take count array ≡ now →
     true ≡ is_removable now (row, part now row) →

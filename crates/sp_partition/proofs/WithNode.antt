@@ -72,6 +72,7 @@ with_addable row column parts p h =
         subst (λ k. slice_index p k ≤ slice_index p (row - 1 - 1)) (omega arith) (h.larger.descending (row - 1 - 1)) in
         omega (arith, falls, h.longer, h.column_is, h.others (row - 1) (omega arith) (λ e. omega arith))
 
+-- A node is addable exactly where some diagram has it besides.
 pub addable_with : (parts : List ℕ) (row column : ℕ) → IsPartition parts →
     (is_addable parts (row, column) ≡ true) ↔ ((p : List ℕ) × IsWithNode row column parts p)
 addable_with parts row column h = (
@@ -140,6 +141,7 @@ with_removable row column parts p h =
         subst (λ k. slice_index p k ≤ slice_index p (row - 1)) (omega arith) (h.smaller.descending (row - 1)) in
         omega (arith, falls, h.longer, h.column_is, h.others (row + 1) (omega arith) (λ e. omega arith))
 
+-- A node is removable exactly where some diagram lacks it alone.
 pub removable_with : (parts : List ℕ) (row column : ℕ) → IsPartition parts →
     (is_removable parts (row, column) ≡ true) ↔ ((p : List ℕ) × IsWithNode row column p parts)
 removable_with parts row column h = (

@@ -115,6 +115,29 @@ impl Partition {
         differ(self.parts(), e as usize - 1)
     }
 
+    /// The length of this row, counted from 1, which is 0 below the last.
+    pub fn part(&self, row: u8) -> u8
+        requires { 0 < row }
+        ensures value { result ≡ part_of self.now row }
+        ensures small { result ≤ CAPACITY }
+    {
+        self.parts().get(row as usize - 1).copied().unwrap_or(0)
+    }
+
+    /// Whether the row has an addable node: it is the first, or the row above is longer.
+    pub fn can_grow(&self, row: u8) -> bool
+        ensures { result ≡ is_addable self.now (row, part_of self.now row + 1) }
+    {
+        row == 1 || row > 1 && self.part(row - 1) > self.part(row)
+    }
+
+    /// Whether the row has a removable node: the row below is shorter.
+    pub fn can_shrink(&self, row: u8) -> bool
+        ensures { result ≡ is_removable self.now (row, part_of self.now row) }
+    {
+        0 < row && row <= self.count && self.part(row) > self.part(row + 1)
+    }
+
     /// The partition with one node more in this row, counted from 1.
     ///
     /// None where the row has no addable node, or the degree is `CAPACITY`.
@@ -182,28 +205,6 @@ impl Partition {
         longer.degree = degree as u8;
         longer.count += times;
         Some(longer)
-    }
-
-    // The part in this row, counted from 1, which is 0 below the last.
-    fn part(&self, row: u8) -> u8
-        requires { 0 < row }
-        ensures { result ≡ part_of self.now row }
-    {
-        self.parts().get(row as usize - 1).copied().unwrap_or(0)
-    }
-
-    // Whether the row above is longer.
-    fn can_grow(&self, row: u8) -> bool
-        ensures { result ≡ is_addable self.now (row, part_of self.now row + 1) }
-    {
-        row == 1 || row > 1 && self.part(row - 1) > self.part(row)
-    }
-
-    // Whether the row below is shorter.
-    fn can_shrink(&self, row: u8) -> bool
-        ensures { result ≡ is_removable self.now (row, part_of self.now row) }
-    {
-        0 < row && row <= self.count && self.part(row) > self.part(row + 1)
     }
 }
 

@@ -89,6 +89,8 @@ fn orders_by_degree_first(rt: HostRuntime) -> Result<(), Fail> {
     assert!(rt; read(b"2")? < read(b"1^3")?);
     assert!(rt; read(b"2^2,1")? < read(b"3,1^2")?);
     assert!(rt; read(b"-")? < read(b"1")?);
+    assert!(rt; read(b"1^25")? < read(b"1^26")?);
+    assert_ne!(rt; read(b"1^25")?, read(b"1^26")?);
     Ok(())
 }
 

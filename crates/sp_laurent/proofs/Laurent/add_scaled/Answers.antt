@@ -1,6 +1,7 @@
-use Rattle.std.proofs.Common.{◌+◌, ◌*◌, ◌<◌, ◌^◌, refl, sym, ◌∙◌, ap₂, subst, arith, inl, inr}
-use Rattle.sp_defs.specs.Laurent.{plus, times, size}
+use Rattle.std.proofs.Common.{◌+◌, ◌*◌, ◌<◌, ◌^◌, refl, sym, ◌∙◌, ap, ap₂, subst, arith, inl, inr}
+use Rattle.sp_defs.specs.Laurent.{coefficient, plus, times, size}
 use Rattle.sp_defs.specs.Within.{PowersWithin}
+use Rattle.sp_algebra.proofs.Laws.{coefficient-plus_times}
 use Rattle.sp_algebra.proofs.Sizes.{within_plus, within_times}
 use Rattle.sp_laurent.specs.Held.{IsHeld}
 use Rattle.sp_laurent.proofs.Held.{held_sum, add_none}
@@ -40,3 +41,15 @@ returns-clause-powers c d old product =
 
 pub returns-clause-held : goal.returns-clause-held
 returns-clause-held c = invariant_of-self c
+
+pub returns-clause-coefficients : goal.returns-clause-coefficients
+returns-clause-coefficients c j =
+    let sum = c.in_ok-add_product.ensures ∙ ap₂ plus
+    (c.in_ok-sum.ensures.items ∙ c.deref.ensures.value ∙ c.self.view_is)
+    (ap₂ times (c.deref-2.ensures.value ∙ c.a.view_is) (c.deref-3.ensures.value ∙ c.b.view_is)) in
+    ap (λ q. coefficient q j) sum ∙ coefficient-plus_times c.args.self.now c.args.a.now c.args.b.now j
+
+pub returns-then-is_zero-clause-coefficients : goal.returns-then-is_zero-clause-coefficients
+returns-then-is_zero-clause-coefficients c j =
+    ap (λ q. coefficient q j) (returns-then-is_zero-clause-ok c)
+    ∙ coefficient-plus_times c.args.self.now c.args.a.now c.args.b.now j
