@@ -1,20 +1,23 @@
 -- The walk down the numbers for a core and a quotient.
 use Rattle.std.proofs.Common.{◌≡◌, ℕ, suc, ◌+◌, ◌-◌, ◌*◌, ◌/◌, ◌%◌, ◌<◌, ◌≤◌, Bool, true, false, cond}
-use Rattle.std.proofs.Common.{List, [], ◌∷◌, ◌++◌, filter, length, slice_index, sum_by, sym, ◌∙◌, ap, arith}
+use Rattle.std.proofs.Common.{List, [], ◌∷◌, ◌++◌, filter, length, slice_index, sum_by, sym, ◌∙◌, ap, ap₂, subst}
+use Rattle.std.proofs.Common.{arith}
 use Rattle.std.proofs.Common.{append_assoc, append-nil, length-append}
 use Rattle.std.specs.Prelude.{slice_index_or}
 use Rattle.std.specs.List.{AllByRecursion}
 use Rattle.std.proofs.lemmas.List.Elements.{filter_agree}
 use native.Mathlib.Nat.{mod-lt}
 use Rattle.sp_defs.specs.Partition.{degree, IsPartition}
-use Rattle.sp_defs.specs.Abacus.{runner, core}
+use Rattle.sp_defs.specs.Abacus.{beads, runner}
 use Rattle.sp_lists.proofs.Places.{all_weaken}
 use Rattle.sp_partition.specs.Held.{IsHeld}
+use Rattle.sp_abacus.specs.Fit.{Fit}
 use Rattle.sp_abacus_law.specs.Beads.{down, numbers, Falls}
 use Rattle.sp_abacus_law.specs.Combined.{beads_for, combined_beads, combined, member}
 use Rattle.sp_abacus_law.proofs.CoreQuotient.{set_total, set_falls}
 use Rattle.sp_abacus_law.proofs.Placing.{beads-small, beads_for-few, degree-combined}
 
+-- A bead is placed at this number.
 abbrev pub taken : ℕ → List ℕ → List (List ℕ) → ℕ → Bool
 taken e heights q b = member (b / e) (numbers (slice_index_or q (b % e) []) (slice_index heights (b % e)))
 
@@ -22,23 +25,24 @@ taken e heights q b = member (b / e) (numbers (slice_index_or q (b % e) []) (sli
 abbrev pub taken_below : ℕ → List ℕ → List (List ℕ) → ℕ → List ℕ
 taken_below e heights q n = filter (λ b. taken e heights q b) (down n)
 
--- What `combine` has made sure of.
-pub record Fit (e : ℕ) (kappa : List ℕ) (q : List (List ℕ)) : Type 0 where
-  pub e_least : 2 ≤ e
-  pub e_most : e ≤ 64
-  pub kappa_held : IsHeld kappa
-  pub count : length q ≡ e
-  pub own : core e kappa ≡ kappa
-  pub held : AllByRecursion IsHeld q
-  pub small : degree kappa + e * sum_by degree q ≤ 20
+-- ---- what a core and a quotient that fit say
 
+-- Partitions that are held are partitions.
 pub all_partitions : (q : List (List ℕ)) → AllByRecursion IsHeld q → AllByRecursion IsPartition q
 all_partitions q h = all_weaken IsHeld IsPartition q (λ p k. k.partition) h
 
+-- There are at most 64 beads,
 pub count_few : (e : ℕ) (kappa : List ℕ) (q : List (List ℕ)) → Fit e kappa q → beads_for e kappa q ≤ 64
 count_few e kappa q f =
     beads_for-few e kappa q (omega (arith, f.e_least)) f.e_most f.kappa_held.partition (all_partitions q f.held) f.small
 
+-- The beads as the code counts them.
+pub counted_few : (e : ℕ) (kappa : List ℕ) (q : List (List ℕ)) (own rows : ℕ) → Fit e kappa q →
+    own ≡ beads e kappa → rows ≡ sum_by length q → own + rows * e ≤ 64
+counted_few e kappa q own rows f is rows_are =
+    subst (λ n. n ≤ 64) (sym (ap₂ (λ m n. m + n * e) is rows_are)) (count_few e kappa q f)
+
+-- and at most 64 are placed.
 pub set_few : (e : ℕ) (kappa : List ℕ) (q : List (List ℕ)) → Fit e kappa q → length (combined_beads e kappa q) ≤ 64
 set_few e kappa q f =
     omega (
@@ -47,6 +51,7 @@ set_few e kappa q f =
       set_total e (omega (arith, f.e_least)) kappa q f.kappa_held.partition f.count (all_partitions q f.held),
     )
 
+-- The partition that they show is within 32.
 pub combined_small : (e : ℕ) (kappa : List ℕ) (q : List (List ℕ)) → Fit e kappa q → degree (combined e kappa q) ≤ 32
 combined_small e kappa q f =
     omega (
@@ -56,6 +61,14 @@ combined_small e kappa q f =
           (all_partitions q f.held) f.own,
     )
 
+-- The numbers placed fall.
+pub set_falling : (e : ℕ) (kappa : List ℕ) (q : List (List ℕ)) → Fit e kappa q → Falls (combined_beads e kappa q)
+set_falling e kappa q f =
+    set_falls e (omega (arith, f.e_least)) kappa q f.kappa_held.partition f.count (all_partitions q f.held)
+
+-- ---- the walk
+
+-- The numbers below 96 are all.
 pub taken_all : (e : ℕ) (kappa heights nums : List ℕ) (q : List (List ℕ)) → Fit e kappa q →
     nums ≡ numbers kappa (beads_for e kappa q) →
     ((i : ℕ) → i < 64 → slice_index heights i ≡ length (runner e nums i)) →
@@ -82,6 +95,7 @@ taken_next e n heights q v least t =
     back : 1 ≤ n → n ≡ suc (n - 1)
     back k = omega arith
 
+-- A number at which a bead is placed.
 pub taken_yes : (e n : ℕ) (heights found whole : List ℕ) (q : List (List ℕ)) → 1 ≤ n →
     taken e heights q (n - 1) ≡ true → found ++ taken_below e heights q n ≡ whole →
     (found ++ (n - 1) ∷ []) ++ taken_below e heights q (n - 1) ≡ whole
@@ -90,12 +104,14 @@ taken_yes e n heights found whole q least t is =
     ∙ ap (λ r. found ++ r) (sym (taken_next e n heights q true least t))
     ∙ is
 
+-- A number at which none is.
 pub taken_no : (e n : ℕ) (heights found whole : List ℕ) (q : List (List ℕ)) → 1 ≤ n →
     taken e heights q (n - 1) ≡ false → found ++ taken_below e heights q n ≡ whole →
     found ++ taken_below e heights q (n - 1) ≡ whole
 taken_no e n heights found whole q least t is =
     ap (λ r. found ++ r) (sym (taken_next e n heights q false least t)) ∙ is
 
+-- Where one is placed there is room.
 pub taken_room : (e n : ℕ) (heights found whole : List ℕ) (q : List (List ℕ)) → 1 ≤ n →
     taken e heights q (n - 1) ≡ true → length whole ≤ 64 → found ++ taken_below e heights q n ≡ whole →
     length found < 64
@@ -108,6 +124,7 @@ taken_room e n heights found whole q least t few is =
         length (taken_below e heights q n) ≡ suc (length (taken_below e heights q (n - 1))) → length found < 64
     settle p r s = omega arith
 
+-- At the end all have been placed.
 pub taken_done : (e n : ℕ) (heights found whole : List ℕ) (q : List (List ℕ)) → n ≤ 0 →
     found ++ taken_below e heights q n ≡ whole → found ≡ whole
 taken_done e n heights found whole q none is =
@@ -115,7 +132,3 @@ taken_done e n heights found whole q none is =
   where
     zero_is : n ≤ 0 → n ≡ 0
     zero_is k = omega arith
-
-pub set_falling : (e : ℕ) (kappa : List ℕ) (q : List (List ℕ)) → Fit e kappa q → Falls (combined_beads e kappa q)
-set_falling e kappa q f =
-    set_falls e (omega (arith, f.e_least)) kappa q f.kappa_held.partition f.count (all_partitions q f.held)

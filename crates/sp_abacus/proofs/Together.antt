@@ -13,19 +13,24 @@ use Rattle.sp_abacus_law.proofs.Weight.{degree-core}
 
 module _ (e : ℕ) (he : 1 ≤ e) (kappa : List ℕ) (q : List (List ℕ)) (lambda : List ℕ) (h : IsPartition lambda)
     (ck : core e lambda ≡ kappa) (cq : quotient e lambda ≡ q) where
+  -- A partition with core kappa makes kappa its own core.
   pub its_own : core e kappa ≡ kappa
   its_own = ap (core e) (sym ck) ∙ core_again e he lambda ∙ ck
 
+  -- It is the one combined of kappa and its quotient,
   pub combined_back : combined e kappa q ≡ lambda
   combined_back = ap₂ (combined e) (sym ck) (sym cq) ∙ combined_own e he lambda h
 
+  -- has the degree that these make,
   pub degree_back : degree lambda ≡ degree kappa + e * sum_by degree q
   degree_back = degree-core e lambda he h ∙ ap₂ (λ k w. degree k + e * sum_by degree w) ck cq
 
+  -- and its quotient has e entries.
   pub count_back : length q ≡ e
   count_back =
       ap length (sym cq) ∙ length-map-range_with_len (λ i. shown (runner e (beta e lambda) i)) 0 e
 
+-- The partition combined of a core and a quotient has both.
 pub has_both : (e : ℕ) → 1 ≤ e → (kappa : List ℕ) (q : List (List ℕ)) → IsPartition kappa → length q ≡ e →
     AllByRecursion IsPartition q → core e kappa ≡ kappa →
     core e (combined e kappa q) ≡ kappa × quotient e (combined e kappa q) ≡ q
@@ -34,6 +39,7 @@ has_both e he kappa q pk count pq own =
 
 -- ---- what a test of two partitions has told
 
+-- A test that tells two lists apart,
 pub told_other : (xs ys : List ℕ) (b : Bool) → b ≡ not (pointwise nat_eq xs ys) → b ≡ true → xs ≡ ys → ⊥
 told_other xs ys b is told = other_text xs ys (of_not (pointwise nat_eq xs ys) (sym is ∙ told))
   where
@@ -41,6 +47,7 @@ told_other xs ys b is told = other_text xs ys (of_not (pointwise nat_eq xs ys) (
     of_not true h = h
     of_not false h = refl
 
+-- or finds them equal.
 pub told_same : (xs ys : List ℕ) (b : Bool) → b ≡ not (pointwise nat_eq xs ys) → b ≡ false → xs ≡ ys
 told_same xs ys b is told = same_text xs ys (of_not (pointwise nat_eq xs ys) (sym is ∙ told))
   where

@@ -25,6 +25,7 @@ use Rattle.sp_abacus_law.proofs.Bounds.{slid-small}
 
 -- ---- one bead more
 
+-- One bead more at the end.
 pub runner-snoc : (e b : ℕ) (bs : List ℕ) (i : ℕ) →
     runner e (bs ++ b ∷ []) i ≡ runner e bs i ++ cond (nat_eq (b % e) i) ((b / e) ∷ []) []
 runner-snoc e b bs i =
@@ -43,6 +44,7 @@ pub record Counted (e : ℕ) (counts seen : List ℕ) : Type 0 where
   pub room : length counts ≡ 64
   pub is : (i : ℕ) → i < 64 → slice_index counts i ≡ length (runner e seen i)
 
+-- No beads have been counted.
 pub counted_none : (e : ℕ) → Counted e (replicate 64 0) []
 counted_none e = record { room = refl; is = λ i below. zeros 64 i }
   where
@@ -62,6 +64,7 @@ one_more e b seen i =
     last true = refl
     last false = refl
 
+-- One bead more has been counted.
 pub counted_more : (e b : ℕ) (counts seen : List ℕ) → b % e < 64 → Counted e counts seen →
     Counted e (slice_set counts (b % e) (slice_index counts (b % e) + 1)) (seen ++ b ∷ [])
 counted_more e b counts seen lt h = record {
@@ -89,10 +92,12 @@ counted_more e b counts seen lt h = record {
 
 -- ---- one runner
 
+-- The places found so far on runner i, among the beads seen.
 pub record Found (e i : ℕ) (places seen : List ℕ) : Type 0 where
   pub is : places ≡ runner e seen i
   pub few : length places ≤ length seen
 
+-- A bead on the runner.
 pub found_yes : (e i b : ℕ) (places seen : List ℕ) → b % e ≡ i → Found e i places seen →
     Found e i (places ++ (b / e) ∷ []) (seen ++ b ∷ [])
 found_yes e i b places seen on h = record {
@@ -103,6 +108,7 @@ found_yes e i b places seen on h = record {
   few = omega (arith, h.few, length-append places ((b / e) ∷ []), length-append seen (b ∷ []));
 }
 
+-- A bead on another runner.
 pub found_no : (e i b : ℕ) (places seen : List ℕ) → b % e ≢ i → Found e i places seen →
     Found e i places (seen ++ b ∷ [])
 found_no e i b places seen off h = record {
@@ -114,6 +120,7 @@ found_no e i b places seen off h = record {
   few = omega (arith, h.few, length-append seen (b ∷ []));
 }
 
+-- A count stays within the number of beads.
 pub counted_small : (e : ℕ) (counts seen : List ℕ) (i n : ℕ) → i < 64 → length seen ≤ n → Counted e counts seen →
     slice_index counts i ≤ n
 counted_small e counts seen i n below few h = omega (arith, h.is i below, runner-short e seen i)
@@ -124,6 +131,7 @@ counted_small e counts seen i n below few h = omega (arith, h.is i below, runner
 abbrev pub below_heights : ℕ → List ℕ → ℕ → List ℕ
 below_heights e heights n = filter (λ b. nat_lt (b / e) (slice_index heights (b % e))) (down n)
 
+-- The numbers below the heights are the beads slid down.
 pub below_heights-all : (e : ℕ) (parts heights : List ℕ) → 2 ≤ e → e ≤ 64 → IsHeld parts →
     length (beta e parts) ≤ 64 → ((i : ℕ) → i < 64 → slice_index heights i ≡ length (runner e (beta e parts) i)) →
     below_heights e heights 96 ≡ slid e parts
@@ -136,12 +144,14 @@ below_heights-all e parts heights he most h few is =
     positive : 2 ≤ e → 1 ≤ e
     positive k = omega arith
 
+-- A number whose place is below the height of its runner.
 pub below_heights-yes : (e n : ℕ) (heights : List ℕ) → n / e < slice_index heights (n % e) →
     below_heights e heights (suc n) ≡ n ∷ below_heights e heights n
 below_heights-yes e n heights lt =
     ap (λ v. cond v (n ∷ below_heights e heights n) (below_heights e heights n))
     (lt-ltb (n / e) (slice_index heights (n % e)) lt)
 
+-- A number whose place is not.
 pub below_heights-no : (e n : ℕ) (heights : List ℕ) → slice_index heights (n % e) ≤ n / e →
     below_heights e heights (suc n) ≡ below_heights e heights n
 below_heights-no e n heights le =
@@ -150,6 +160,7 @@ below_heights-no e n heights le =
 
 -- ---- the beta numbers
 
+-- The number of one row more.
 pub numbers_more : (parts : List ℕ) (k row x : ℕ) (before after : List ℕ) → 1 ≤ row → x ≡ part parts row →
     before ≡ map (λ a. part parts a + k - a) (range_with_len 1 (row - 1)) → after ≡ before ++ (x + k - row) ∷ [] →
     after ≡ map (λ a. part parts a + k - a) (range_with_len 1 (row + 1 - 1))
@@ -162,6 +173,7 @@ numbers_more parts k row x before after least is h more =
     next : 1 ≤ row → row - 1 + 1 ≡ row + 1 - 1
     next k = omega arith
 
+-- The numbers of all rows.
 pub numbers_done : (k row : ℕ) (parts items : List ℕ) → row - 1 ≡ k →
     items ≡ map (λ a. part parts a + k - a) (range_with_len 1 (row - 1)) → items ≡ numbers parts k
 numbers_done k row parts items all is =
@@ -169,6 +181,7 @@ numbers_done k row parts items all is =
 
 -- ---- the walk down the numbers
 
+-- Where a bead is found there is room.
 pub slid_room : (e n : ℕ) (parts heights found : List ℕ) → 1 ≤ n → (n - 1) / e < slice_index heights ((n - 1) % e) →
     length (slid e parts) ≤ 64 → found ++ below_heights e heights n ≡ slid e parts → length found < 64
 slid_room e n parts heights found least lt few is =
@@ -185,6 +198,7 @@ slid_room e n parts heights found least lt few is =
         length (below_heights e heights n) ≡ suc (length (below_heights e heights (n - 1))) → length found < 64
     settle p q r = omega arith
 
+-- A bead slid down to this number.
 pub slid_yes : (e n : ℕ) (heights found whole : List ℕ) → 1 ≤ n → (n - 1) / e < slice_index heights ((n - 1) % e) →
     found ++ below_heights e heights n ≡ whole → (found ++ (n - 1) ∷ []) ++ below_heights e heights (n - 1) ≡ whole
 slid_yes e n heights found whole least lt is =
@@ -195,6 +209,7 @@ slid_yes e n heights found whole least lt is =
     back : 1 ≤ n → n ≡ suc (n - 1)
     back k = omega arith
 
+-- None.
 pub slid_no : (e n : ℕ) (heights found whole : List ℕ) → 1 ≤ n → slice_index heights ((n - 1) % e) ≤ (n - 1) / e →
     found ++ below_heights e heights n ≡ whole → found ++ below_heights e heights (n - 1) ≡ whole
 slid_no e n heights found whole least le is =
@@ -203,6 +218,7 @@ slid_no e n heights found whole least le is =
     back : 1 ≤ n → n ≡ suc (n - 1)
     back k = omega arith
 
+-- At the end all have been found.
 pub slid_done : (e n : ℕ) (heights found whole : List ℕ) → n ≤ 0 → found ++ below_heights e heights n ≡ whole →
     found ≡ whole
 slid_done e n heights found whole none is =

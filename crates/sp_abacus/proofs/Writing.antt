@@ -26,6 +26,7 @@ places_low : (e n : ℕ) (bs : List ℕ) → 1 ≤ e → AllByRecursion (λ c. c
 places_low e n [] he h = omega arith
 places_low e n (b ∷ bs) he h = omega (arith, place_up e b n he (omega (arith, h.0)), places_low e n bs he h.1)
 
+-- The places are those of the greatest number.
 pub places_first : (e b : ℕ) (numbers : List ℕ) → 2 ≤ e → Falls numbers → Some b ≡ slice_get numbers 0 →
     b / e + 1 ≡ places e numbers
 places_first e b [] he h is = cc
@@ -59,6 +60,7 @@ place_small e place parts he most h few lt =
 
 -- ---- what is written so far
 
+-- One line more.
 pub lines_more : (old now more piece : List ℕ) (line : ℕ → List ℕ) (place : ℕ) → more ≡ now ++ piece →
     piece ≡ line place → now ≡ old ++ flat_map line (range_with_len 0 place) →
     more ≡ old ++ flat_map line (range_with_len 0 (place + 1))
@@ -69,6 +71,7 @@ lines_more old now more piece line place appended is h =
     ∙ ap (λ xs. old ++ (flat_map line (range_with_len 0 place) ++ xs)) is
     ∙ ap (λ xs. old ++ xs) (sym (flat_map-range_more line 0 place place (omega arith)))
 
+-- One character more in a line.
 pub characters_more : (old now more : List ℕ) (x : ℕ) (at : ℕ → ℕ) (runner : ℕ) → more ≡ now ++ x ∷ [] →
     x ≡ at runner → now ≡ old ++ map at (range_with_len 0 runner) →
     more ≡ old ++ map at (range_with_len 0 (runner + 1))

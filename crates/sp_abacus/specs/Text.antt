@@ -4,6 +4,7 @@ use Rattle.std.specs.List.{range_with_len}
 use Rattle.sp_defs.specs.Abacus.{beta}
 use Rattle.sp_abacus_law.specs.Combined.{member}
 
+-- A line ends with a newline.
 abbrev pub newline : List ℕ
 newline = 10 ∷ []
 

@@ -7,6 +7,7 @@ ghost use Rattle.sp_defs.specs.Abacus.{core as core_of, quotient as quotient_of,
 ghost use Rattle.sp_partition.specs.Held.{IsHeld};
 ghost use Rattle.sp_abacus_law.specs.Beads.{numbers as numbers_of, Falls};
 ghost use Rattle.sp_abacus_law.specs.Combined.{combined_beads, member};
+ghost use Rattle.sp_abacus.specs.Fit.{Fit};
 
 use crate::beads::{NUMBERS_END, bead_count, heights, numbers, row_count};
 use crate::parts::{core, shown};
@@ -80,12 +81,7 @@ fn total_rows(partitions: &[Partition]) -> u32
 // The numbers of the beads, from the greatest to the least. Each runner has as many as it has for the core, and they
 // show its entry of the quotient.
 fn placed(e: u8, kappa: &Partition, quotient: &[Partition]) -> ArrayVec<u8, 64>
-    requires e_least { 2 ≤ e }
-    requires e_most { e ≤ 64 }
-    requires count { length quotient.now ≡ e }
-    requires own { core_of e kappa.now ≡ kappa.now }
-    requires held { AllByRecursion IsHeld quotient.now }
-    requires small { degree_of kappa.now + e * sum_by degree_of quotient.now ≤ DEGREE_LIMIT }
+    requires { Fit e kappa.now quotient.now }
     ensures numbers { result.items ≡ combined_beads e kappa.now quotient.now }
     ensures falls { Falls result.items }
     ensures small { degree_of (shown_of result.items) ≤ 32 }

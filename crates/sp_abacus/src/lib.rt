@@ -11,7 +11,7 @@ mod text;
 
 pub use beads::beta;
 pub use combining::{CombineFault, combine};
-pub use parts::{core, quotient, weight};
+pub use parts::{core, quotient, shown, weight};
 pub use text::abacus_text;
 
 #[cfg(test)]

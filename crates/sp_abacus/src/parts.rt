@@ -42,7 +42,8 @@ pub fn quotient(e: u8, p: &Partition) -> ArrayVec<Partition, 64>
     found
 }
 
-pub(crate) fn shown(numbers: &[u8]) -> Partition
+/// The partition that beads with these numbers show, which are given from the greatest to the least.
+pub fn shown(numbers: &[u8]) -> Partition
     requires falls { Falls numbers.now }
     requires few { length numbers.now ≤ 64 }
     requires small { degree_of (shown_of numbers.now) ≤ 32 }

@@ -38,8 +38,11 @@ fn cores_with_quotients(rt: HostRuntime) -> Result<(), Fail> {
         combine(3, &three, &[empty, empty, empty]),
         Err(CombineFault::NotCore)
     );
+    let twenty_two = Partition::from_parts(&[22]).unwrap_or_default();
+    assert_eq!(rt; combine(3, &one, &[seven, empty, empty]), Ok(twenty_two));
+    let ten = Partition::from_parts(&[10]).unwrap_or_default();
     assert_eq!(rt;
-        combine(3, &one, &[seven, empty, empty]),
+        combine(3, &one, &[ten, empty, empty]),
         Err(CombineFault::PastDegree)
     );
     Ok(())

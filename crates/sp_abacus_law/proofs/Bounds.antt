@@ -1,8 +1,8 @@
 -- How great the numbers are, and the quotient's degrees.
 use Rattle.std.proofs.Common.{◌≡◌, ℕ, zero, suc, ◌+◌, ◌-◌, ◌*◌, ◌/◌, ◌%◌, ◌<◌, ◌≤◌, Bool, true, false, cond, nat_lt}
-use Rattle.std.proofs.Common.{List, [], ◌∷◌, filter, length, refl, sym, ◌∙◌, ap, subst, arith, sum_by}
+use Rattle.std.proofs.Common.{List, [], ◌∷◌, filter, length, refl, sym, ◌∙◌, ap, subst, arith}
 use Rattle.std.proofs.Common.{le-ltb, mul-le-mul_left, mul-le-mul_right, ◌⊎◌, inl, inr}
-use Rattle.std.specs.List.{AllByRecursion, range_with_len}
+use Rattle.std.specs.List.{AllByRecursion}
 use Rattle.std.proofs.lemmas.List.Sums.{sum_by-cons}
 use native.Mathlib.Nat.{div-add-mod, mod-lt}
 use Rattle.sp_defs.specs.Partition.{degree, IsPartition}
@@ -13,6 +13,7 @@ use Rattle.sp_abacus_law.specs.Beads.{down, Falls}
 use Rattle.sp_abacus_law.proofs.Numbers.{shown-more}
 use Rattle.sp_abacus_law.proofs.Runners.{under, slid-under}
 use Rattle.sp_abacus_law.proofs.Weight.{degree-core, weight-runners, runner-short, slid-falls, length-slid}
+use Rattle.sp_lists.proofs.Sums.{term-le-sum}
 
 -- Numbers are below their count and the degree of what they show.
 pub falls-small : (bs : List ℕ) → Falls bs → AllByRecursion (λ c. c < degree (shown bs) + length bs) bs
@@ -33,23 +34,13 @@ falls-small (b ∷ below) f = (
     first : b < degree (shown (b ∷ below)) + suc (length below)
     first = settle (le_or_lt b (length below))
 
--- ---- one term of a sum
+-- ---- degrees within the partition's own
 
-pub sum-term : (f : ℕ → ℕ) (a n i : ℕ) → a ≤ i → i < a + n → f i ≤ sum_by f (range_with_len a n)
-sum-term f a zero i lo hi = absurd (omega arith)
-sum-term f a (suc n) i lo hi = settle (le_or_lt i a) (sum-term f (a + 1) n i)
-  where
-    settle : (i ≤ a) ⊎ (a < i) → (a + 1 ≤ i → i < a + 1 + n → f i ≤ sum_by f (range_with_len (a + 1) n)) →
-        f i ≤ sum_by f (range_with_len a (suc n))
-    settle (inl h) more =
-        let same : i ≡ a = omega arith in
-        omega (arith, sum_by-cons f a (range_with_len (a + 1) n), ap f same)
-    settle (inr h) more =
-        omega (arith, sum_by-cons f a (range_with_len (a + 1) n), more (omega arith) (omega arith))
-
+-- The core has no more nodes than the partition,
 pub degree-core-le : (e : ℕ) (parts : List ℕ) → 1 ≤ e → IsPartition parts → degree (core e parts) ≤ degree parts
 degree-core-le e parts he h = omega (arith, degree-core e parts he h)
 
+-- nor has an entry of the quotient.
 pub degree-runner-le : (e : ℕ) (parts : List ℕ) (i : ℕ) → 1 ≤ e → i < e → IsPartition parts →
     degree (shown (runner e (beta e parts) i)) ≤ degree parts
 degree-runner-le e parts i he hi h =
@@ -57,7 +48,7 @@ degree-runner-le e parts i he hi h =
     (omega (
       arith,
       weight-runners e parts,
-      sum-term (λ i. degree (shown (runner e (beta e parts) i))) 0 e i (omega arith) (omega arith),
+      term-le-sum (λ i. degree (shown (runner e (beta e parts) i))) 0 e i (omega arith) (omega arith),
     ))
     (degree-core e parts he h)
   where
@@ -66,6 +57,7 @@ degree-runner-le e parts i he hi h =
 
 -- ---- the numbers of the beads slid down
 
+-- What holds of the numbers below n holds of each.
 pub down-at : (P : ℕ → Type 0) (n b : ℕ) → AllByRecursion P (down n) → b < n → P b
 down-at P zero b h lt = absurd (omega arith)
 down-at P (suc n) b (h, hs) lt = settle (le_or_lt n b) (λ k. down-at P n b hs k)

@@ -15,13 +15,13 @@ use Rattle.sp_abacus_law.proofs.Falling.{length-down}
 use Rattle.sp_abacus_law.proofs.Numbers.{beta-falls, beads-enough, length-numbers, numbers-falls, numbers-below}
 use Rattle.sp_abacus_law.proofs.Numbers.{shown-numbers, length-beta}
 use Rattle.sp_abacus_law.proofs.Shown.{numbers-shown, shown-partition, shown-short}
-use Rattle.sp_abacus_law.proofs.Sums.{sum-alike}
 use Rattle.sp_abacus_law.proofs.Runners.{fallen, slid-under, runner-falls}
 use Rattle.sp_abacus_law.proofs.Weight.{runner-fallen, fallen-falls, length-fallen, runner-slid, slid-falls}
 use Rattle.sp_abacus_law.proofs.Weight.{length-slid}
 use Rattle.sp_abacus_law.proofs.Weight.{length-runners, runner-short, core-partition}
 use Rattle.sp_abacus_law.proofs.Members.{same-runners, runner-placed, placed-falls}
 use Rattle.sp_abacus_law.proofs.MoreBeads.{fallen-alike, height_more, rounds, quotient-numbers, core-numbers}
+use Rattle.sp_lists.proofs.Sums.{sum-alike}
 
 -- ---- core and quotient determine the partition
 
@@ -50,6 +50,7 @@ module _ (e : ℕ) (he : 1 ≤ e) where
       (runner-falls e (numbers parts (j * e)) i he (numbers-falls parts (j * e) h)))
       ∙ ap₂ numbers (quotient-numbers e i j parts he hi enough) (height_core i j parts hi enough)
 
+  -- Partitions with one core and one quotient are the same.
   pub one_partition : (x y : List ℕ) → IsPartition x → IsPartition y → core e x ≡ core e y →
       ((i : ℕ) → i < e → shown (runner e (beta e x) i) ≡ shown (runner e (beta e y) i)) → x ≡ y
   one_partition x y hx hy same_core same =
@@ -75,6 +76,7 @@ module _ (e : ℕ) (he : 1 ≤ e) where
 
   -- ---- a core is its own core
 
+  -- A core is its own core.
   pub core_again : (parts : List ℕ) → core e (core e parts) ≡ core e parts
   core_again parts =
       sym (core-numbers e (rounds e parts) (core e parts) he short)
@@ -142,6 +144,7 @@ module _ (e : ℕ) (he : 1 ≤ e) where
     first_small [] = omega arith
     first_small (p ∷ parts) = omega (arith, sum_by-cons (λ x. x) p parts)
 
+    -- The places of the beads lie below the nodes of the quotient and all beads together.
     pub places_low : (i : ℕ) → i < e → AllByRecursion (λ p. p < sum_by degree q + total) (places_for e kappa q i)
     places_low i hi =
         all_weaken (λ c. c < degree (entry i) + length (runner e mine i)) (λ c. c < sum_by degree q + total)
@@ -155,6 +158,7 @@ module _ (e : ℕ) (he : 1 ≤ e) where
         runner-placed e (sum_by degree q + total) i (places_for e kappa q) hi
         (numbers-falls (entry i) (length (runner e mine i)) (entry_partition i hi)) (places_low i hi)
 
+    -- The numbers placed fall,
     pub set_falls : Falls set
     set_falls = placed-falls e ((sum_by degree q + total) * e) (places_for e kappa q)
 
@@ -169,6 +173,7 @@ module _ (e : ℕ) (he : 1 ≤ e) where
         (λ i lo hi. set_height i (omega arith)))
         ∙ sym (length-runners e mine he)
 
+    -- and they are a multiple of e.
     pub set_total : length set ≡ j * e
     set_total = set_length ∙ length-numbers kappa total ∙ total_is
 
@@ -178,9 +183,11 @@ module _ (e : ℕ) (he : 1 ≤ e) where
     short : length (combined e kappa q) ≤ j * e
     short = omega (arith, set_total, shown-short set)
 
+    -- They show a partition.
     pub combined_partition : IsPartition (combined e kappa q)
     combined_partition = shown-partition set set_falls
 
+    -- Runner i shows entry i of the quotient.
     pub combined_entry : (i : ℕ) → i < e → shown (runner e (beta e (combined e kappa q)) i) ≡ entry i
     combined_entry i hi =
         sym (quotient-numbers e i j (combined e kappa q) he hi short)
@@ -188,6 +195,7 @@ module _ (e : ℕ) (he : 1 ≤ e) where
         ∙ ap shown (set_runner i hi)
         ∙ shown-numbers (entry i) (length (runner e mine i)) (entry_partition i hi) (room i hi)
 
+    -- So the partition has this quotient,
     pub combined_quotient : quotient e (combined e kappa q) ≡ q
     combined_quotient =
         sym (fill_by_all (λ i. shown (runner e (beta e (combined e kappa q)) i)) q e [] count
@@ -196,6 +204,7 @@ module _ (e : ℕ) (he : 1 ≤ e) where
     kappa_short : length kappa ≤ j * e
     kappa_short = omega (arith, enough, sym total_is)
 
+    -- and the core of kappa.
     pub combined_core : core e (combined e kappa q) ≡ core e kappa
     combined_core =
         sym (core-numbers e j (combined e kappa q) he short)
@@ -211,6 +220,7 @@ module _ (e : ℕ) (he : 1 ≤ e) where
   quotient_entry parts i hi =
       get_or-map-range_with_len (λ i. shown (runner e (beta e parts) i)) 0 e i i [] hi (omega arith)
 
+  -- A partition is the one with its own core and quotient.
   pub combined_own : (parts : List ℕ) → IsPartition parts → combined e (core e parts) (quotient e parts) ≡ parts
   combined_own parts h =
       one_partition (combined e (core e parts) (quotient e parts)) parts

@@ -6,14 +6,17 @@ use Rattle.sp_lists.proofs.Elements.{all_filter}
 use Rattle.sp_lists.proofs.Places.{all_weaken}
 use Rattle.sp_abacus_law.specs.Beads.{down, Falls}
 
+-- There are n numbers below n,
 pub length-down : (n : ℕ) → length (down n) ≡ n
 length-down zero = refl
 length-down (suc n) = ap suc (length-down n)
 
+-- each below n,
 pub down-below : (n m : ℕ) → n ≤ m → AllByRecursion (λ c. c < m) (down n)
 down-below zero m h = tt
 down-below (suc n) m h = (omega arith, down-below n m (omega arith))
 
+-- and they fall.
 pub down-falls : (n : ℕ) → Falls (down n)
 down-falls zero = tt
 down-falls (suc n) = (down-below n n (omega arith), down-falls n)
@@ -34,6 +37,7 @@ falls-full (b ∷ bs) (low, f) (h, hs) = ap₂ (λ x xs. x ∷ xs) first (falls-
     less : AllByRecursion (λ c. c < length bs) bs
     less = subst (λ n. AllByRecursion (λ c. c < n) bs) first low
 
+-- What is kept of numbers that fall falls.
 pub falls-filter : (t : ℕ → Bool) (bs : List ℕ) → Falls bs → Falls (filter t bs)
 falls-filter t [] f = tt
 falls-filter t (b ∷ bs) (low, f) = tested (t b) (falls-filter t bs f)

@@ -14,13 +14,16 @@ use Rattle.sp_abacus_law.proofs.Numbers.{numbers-nil, shown-more, shown-none}
 use Rattle.sp_abacus_law.proofs.Shown.{shown-down}
 use Rattle.sp_abacus_law.proofs.Runners.{runner-cons, runner-down}
 
+-- c beads more, below the others, which go up by c.
 abbrev pub lifted : ℕ → List ℕ → List ℕ
 lifted c bs = map (λ b. b + c) bs ++ down c
 
+-- So there are c more,
 pub length-lifted : (c : ℕ) (bs : List ℕ) → length (lifted c bs) ≡ length bs + c
 length-lifted c bs =
     length-append (map (λ b. b + c) bs) (down c) ∙ ap₂ (λ m n. m + n) (length-map bs (λ b. b + c)) (length-down c)
 
+-- they fall,
 pub lifted-falls : (c : ℕ) (bs : List ℕ) → Falls bs → Falls (lifted c bs)
 lifted-falls c [] f = down-falls c
 lifted-falls c (b ∷ bs) (low, f) = (
@@ -31,6 +34,7 @@ lifted-falls c (b ∷ bs) (low, f) = (
   lifted-falls c bs f,
 )
 
+-- and show the same partition.
 pub shown-lifted : (c : ℕ) (bs : List ℕ) → shown (lifted c bs) ≡ shown bs
 shown-lifted c [] = shown-down c
 shown-lifted c (b ∷ bs) = settle (le_or_lt b (length bs)) (shown-lifted c bs) (length-lifted c bs)
@@ -46,6 +50,7 @@ shown-lifted c (b ∷ bs) = settle (le_or_lt b (length bs)) (shown-lifted c bs) 
         less : (m n : ℕ) → m ≡ n + c → b + c - m ≡ b - n
         less m n e = omega arith
 
+-- The numbers of a partition with c beads more are lifted by c.
 pub numbers-lifted : (c : ℕ) (parts : List ℕ) (k : ℕ) → length parts ≤ k →
     numbers parts (k + c) ≡ lifted c (numbers parts k)
 numbers-lifted c [] zero h = ap (numbers []) (plain c) ∙ numbers-nil c
@@ -68,6 +73,7 @@ numbers-lifted c (p ∷ parts) (suc k) h =
     spread : (p k c : ℕ) → p + (k + c) ≡ p + k + c
     spread p k c = omega arith
 
+-- With e beads more each runner has one more.
 pub runner-lifted : (e i : ℕ) (bs : List ℕ) → i < e → runner e (lifted e bs) i ≡ lifted 1 (runner e bs i)
 runner-lifted e i [] hi = ap (λ n. runner e (down n) i) (plain e) ∙ runner-down e i 1 hi
   where

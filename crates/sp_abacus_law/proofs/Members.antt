@@ -1,23 +1,25 @@
 -- Numbers that descend strictly are their set, and so the beads on their runners.
 use Rattle.std.proofs.Common.{◌≡◌, ◌≢◌, ℕ, zero, suc, ◌+◌, ◌*◌, ◌/◌, ◌%◌, ◌<◌, ◌≤◌, Bool, true, false, cond, nat_eq}
-use Rattle.std.proofs.Common.{◌||◌, ◌&&◌, List, [], ◌∷◌, map, filter, refl, sym, ◌∙◌, ap, ap₂, subst, arith}
-use Rattle.std.proofs.Common.{◌⊎◌, inl, inr, eq-eqb, eqb-true, eq-or-lt_of_le}
+use Rattle.std.proofs.Common.{◌||◌, List, [], ◌∷◌, filter, refl, sym, ◌∙◌, ap, ap₂, subst, arith}
+use Rattle.std.proofs.Common.{◌⊎◌, inl, inr, eq-eqb, eq-or-lt_of_le}
 use Rattle.std.specs.List.{AllByRecursion}
 use Rattle.std.proofs.lemmas.List.Elements.{filter_agree}
 use Rattle.std.proofs.lemmas.Bool.Decides.{eqb_tells}
 use native.Mathlib.Nat.{div-add-mod, mod-lt}
 use Rattle.sp_defs.specs.Abacus.{runner}
-use Rattle.sp_lists.proofs.Elements.{filter_alike, filter_twice}
+use Rattle.sp_lists.proofs.Elements.{filter_alike}
 use Rattle.sp_lists.proofs.Places.{all_weaken}
 use Rattle.sp_abacus_law.specs.Beads.{down, Falls}
 use Rattle.sp_abacus_law.specs.Combined.{member, placed}
 use Rattle.sp_abacus_law.proofs.Falling.{down-below, falls-filter, down-falls}
-use Rattle.sp_abacus_law.proofs.Sums.{eqb-differ}
+use Rattle.std.proofs.Common.{ne_eqb}
 use Rattle.sp_abacus_law.proofs.Runners.{runner-cons, runner-down}
+use Rattle.sp_abacus_law.proofs.Runners.{runner-kept}
 
+-- A number past all of a list is not in it.
 pub not_member : (n : ℕ) (xs : List ℕ) → AllByRecursion (λ c. c < n) xs → member n xs ≡ false
 not_member n [] h = refl
-not_member n (x ∷ xs) (h, hs) = ap₂ (λ v w. v || w) (eqb-differ x n (inl h)) (not_member n xs hs)
+not_member n (x ∷ xs) (h, hs) = ap₂ (λ v w. v || w) (ne_eqb x n (λ same. omega arith)) (not_member n xs hs)
 
 -- The numbers below n that are in the list, again.
 pub filter-member : (n : ℕ) (bs : List ℕ) → Falls bs → AllByRecursion (λ c. c < n) bs →
@@ -49,7 +51,7 @@ filter-member (suc n) (b ∷ bs) (low, f) (h, hs) =
         others : (cs : List ℕ) → AllByRecursion (λ c. c < n) cs →
             AllByRecursion (λ c. member c (b ∷ bs) ≡ member c bs) cs
         others [] h = tt
-        others (c ∷ cs) (h, hs) = (ap (λ v. v || member c bs) (eqb-differ b c (inr (omega arith))), others cs hs)
+        others (c ∷ cs) (h, hs) = (ap (λ v. v || member c bs) (ne_eqb b c (λ same. omega arith)), others cs hs)
     settle (inr lt) _ more =
         ap (λ v. cond v (n ∷ filter (λ c. member c (b ∷ bs)) (down n)) (filter (λ c. member c (b ∷ bs)) (down n)))
         (not_member n (b ∷ bs) (lt, below))
@@ -122,48 +124,14 @@ same-runners e xs ys he fx fy same = both (top xs fx) (top ys fy)
 
 -- ---- beads placed on runners
 
-abbrev on : ℕ → ℕ → ℕ → Bool
-on e i b = nat_eq (b % e) i
-
-filter-place : (e : ℕ) (t : ℕ → Bool) (bs : List ℕ) →
-    map (λ b. b / e) (filter (λ b. t (b / e)) bs) ≡ filter t (map (λ b. b / e) bs)
-filter-place e t [] = refl
-filter-place e t (b ∷ bs) = tested (t (b / e)) (filter-place e t bs)
-  where
-    tested : (v : Bool) → map (λ b. b / e) (filter (λ b. t (b / e)) bs) ≡ filter t (map (λ b. b / e) bs) →
-        map (λ b. b / e) (cond v (b ∷ filter (λ b. t (b / e)) bs) (filter (λ b. t (b / e)) bs))
-        ≡ cond v ((b / e) ∷ filter t (map (λ b. b / e) bs)) (filter t (map (λ b. b / e) bs))
-    tested true h = ap (λ r. (b / e) ∷ r) h
-    tested false h = h
-
-placed_on : (e : ℕ) (places : ℕ → List ℕ) (i b : ℕ) →
-    (member (b / e) (places (b % e)) && on e i b) ≡ (on e i b && member (b / e) (places i))
-placed_on e places i b = tested (on e i b) refl
-  where
-    with_true : (v : Bool) → (v && true) ≡ v
-    with_true true = refl
-    with_true false = refl
-
-    with_false : (v : Bool) → (v && false) ≡ false
-    with_false true = refl
-    with_false false = refl
-
-    tested : (v : Bool) → on e i b ≡ v → (member (b / e) (places (b % e)) && v) ≡ (v && member (b / e) (places i))
-    tested true t =
-        with_true (member (b / e) (places (b % e))) ∙ ap (λ j. member (b / e) (places j)) (eqb-true (b % e) i t)
-    tested false t = with_false (member (b / e) (places (b % e)))
-
+-- A runner has the beads that were placed on it.
 pub runner-placed : (e n i : ℕ) (places : ℕ → List ℕ) → i < e → Falls (places i) →
     AllByRecursion (λ p. p < n) (places i) → runner e (placed e places (n * e)) i ≡ places i
 runner-placed e n i places hi f h =
-    ap (map (λ b. b / e))
-    (filter_twice (on e i) (λ b. member (b / e) (places (b % e))) (down (n * e))
-    ∙ filter_agree (λ b. member (b / e) (places (b % e)) && on e i b) (λ b. on e i b && member (b / e) (places i))
-    (placed_on e places i) (down (n * e))
-    ∙ sym (filter_twice (λ b. member (b / e) (places i)) (on e i) (down (n * e))))
-    ∙ filter-place e (λ p. member p (places i)) (filter (on e i) (down (n * e)))
+    runner-kept e i (λ p j. member p (places j)) (down (n * e))
     ∙ ap (filter (λ p. member p (places i))) (runner-down e i n hi)
     ∙ filter-member n (places i) f h
 
+-- The numbers placed fall.
 pub placed-falls : (e n : ℕ) (places : ℕ → List ℕ) → Falls (placed e places n)
 placed-falls e n places = falls-filter (λ b. member (b / e) (places (b % e))) (down n) (down-falls n)

@@ -29,6 +29,7 @@ down-lifted : (n : ℕ) → down (n + 1) ≡ lifted 1 (down n)
 down-lifted n =
     sym (numbers-nil (n + 1)) ∙ numbers-lifted 1 [] n (omega arith) ∙ ap (lifted 1) (numbers-nil n)
 
+-- With e beads more, those slid down are lifted by e.
 pub fallen-lifted : (e : ℕ) (bs : List ℕ) → 1 ≤ e → fallen e (lifted e bs) ≡ lifted e (fallen e bs)
 fallen-lifted e bs he =
     same-runners e (fallen e (lifted e bs)) (lifted e (fallen e bs)) he (fallen-falls e (lifted e bs))
@@ -70,6 +71,7 @@ shown_more e i j (suc d) parts hi h =
     ∙ shown-lifted 1 (runner e (numbers parts ((j + d) * e)) i)
     ∙ shown_more e i j d parts hi h
 
+-- With d times e beads more each runner has d more.
 pub height_more : (e i j d : ℕ) (parts : List ℕ) → i < e → length parts ≤ j * e →
     length (runner e (numbers parts ((j + d) * e)) i) ≡ length (runner e (numbers parts (j * e)) i) + d
 height_more e i j zero parts hi h =
@@ -116,6 +118,7 @@ rounds_least e j parts he h = settle (le_or_lt (rounds e parts) j)
 split_rounds : (e j : ℕ) (parts : List ℕ) → 1 ≤ e → length parts ≤ j * e → j ≡ rounds e parts + (j - rounds e parts)
 split_rounds e j parts he h = omega (arith, rounds_least e j parts he h)
 
+-- Any multiple of e that is enough shows the same quotient,
 pub quotient-numbers : (e i j : ℕ) (parts : List ℕ) → 1 ≤ e → i < e → length parts ≤ j * e →
     shown (runner e (numbers parts (j * e)) i) ≡ shown (runner e (beta e parts) i)
 quotient-numbers e i j parts he hi h =
@@ -123,6 +126,7 @@ quotient-numbers e i j parts he hi h =
     ∙ shown_more e i (rounds e parts) (j - rounds e parts) parts hi (beads-enough e parts he)
     ∙ ap (λ bs. shown (runner e bs i)) (sym (beta-numbers e parts))
 
+-- and the same core.
 pub core-numbers : (e j : ℕ) (parts : List ℕ) → 1 ≤ e → length parts ≤ j * e →
     shown (fallen e (numbers parts (j * e))) ≡ core e parts
 core-numbers e j parts he h =

@@ -42,6 +42,7 @@ numbers-map f a (suc k) (p ∷ parts) h =
     more : (j : ℕ) → j < k → f (a + 1 + j) + j + 1 ≡ slice_index parts j + k
     more j lt = let one = h (suc j) (omega arith) in omega (arith, one, ap f (moved j))
 
+-- Row by row they are the numbers by recursion.
 pub rows-numbers : (parts : List ℕ) (k : ℕ) → map (λ a. part parts a + k - a) (from_one_to k) ≡ numbers parts k
 rows-numbers parts k = numbers-map (λ a. part parts a + k - a) 1 k parts here
   where
@@ -54,13 +55,16 @@ rows-numbers parts k = numbers-map (λ a. part parts a + k - a) 1 k parts here
         settle : (x y : ℕ) → x ≡ y → (x + k - (1 + j)) + j + 1 ≡ y + k
         settle x y same = omega arith
 
+-- So are the beta numbers.
 pub beta-numbers : (e : ℕ) (parts : List ℕ) → beta e parts ≡ numbers parts (beads e parts)
 beta-numbers e parts = rows-numbers parts (beads e parts)
 
+-- The beads of the empty partition stand at the first numbers.
 pub numbers-nil : (k : ℕ) → numbers [] k ≡ down k
 numbers-nil zero = refl
 numbers-nil (suc k) = ap (λ xs. k ∷ xs) (numbers-nil k)
 
+-- There are k beads.
 pub length-numbers : (parts : List ℕ) (k : ℕ) → length (numbers parts k) ≡ k
 length-numbers parts zero = refl
 length-numbers [] (suc k) = ap suc (length-numbers [] k)
@@ -68,6 +72,7 @@ length-numbers (p ∷ parts) (suc k) = ap suc (length-numbers parts k)
 
 -- ---- they descend
 
+-- Their numbers are below the first part and k together.
 pub numbers-below : (parts : List ℕ) (k q : ℕ) → IsPartition parts → slice_index parts 0 ≤ q →
     AllByRecursion (λ c. c < q + k) (numbers parts k)
 numbers-below parts zero q h le = tt
@@ -83,6 +88,7 @@ numbers-below (p ∷ parts) (suc k) q h le = (
       omega arith)),
 )
 
+-- They fall.
 pub numbers-falls : (parts : List ℕ) (k : ℕ) → IsPartition parts → Falls (numbers parts k)
 numbers-falls parts zero h = tt
 numbers-falls [] (suc k) h = (
@@ -100,12 +106,15 @@ numbers-falls (p ∷ parts) (suc k) h = (
 abbrev shown_first : Bool → ℕ → List ℕ → List ℕ
 shown_first v b below = cond v ((b - length below) ∷ shown below) []
 
+-- A bead with room below it shows a part,
 pub shown-more : (b : ℕ) (below : List ℕ) → length below < b → shown (b ∷ below) ≡ (b - length below) ∷ shown below
 shown-more b below h = ap (λ v. shown_first v b below) (lt-ltb (length below) b h)
 
+-- and one with none shows nothing more.
 pub shown-none : (b : ℕ) (below : List ℕ) → b ≤ length below → shown (b ∷ below) ≡ []
 shown-none b below h = ap (λ v. shown_first v b below) (le-ltb (length below) b h)
 
+-- The numbers of a partition show it.
 pub shown-numbers : (parts : List ℕ) (k : ℕ) → IsPartition parts → length parts ≤ k → shown (numbers parts k) ≡ parts
 shown-numbers [] zero h le = refl
 shown-numbers (p ∷ parts) zero h le = absurd (omega arith)
@@ -124,12 +133,15 @@ beads-enough e parts h = enough (length parts) ((length parts + (e - 1)) / e) ((
     enough : (n q r e : ℕ) → e * q + r ≡ n + (e - 1) → r < e → n ≤ q * e
     enough n q r e eq lt = omega arith
 
+-- So do its beta numbers.
 pub shown-beta : (e : ℕ) (parts : List ℕ) → 1 ≤ e → IsPartition parts → shown (beta e parts) ≡ parts
 shown-beta e parts he h =
     ap shown (beta-numbers e parts) ∙ shown-numbers parts (beads e parts) h (beads-enough e parts he)
 
+-- They fall,
 pub beta-falls : (e : ℕ) (parts : List ℕ) → IsPartition parts → Falls (beta e parts)
 beta-falls e parts h = subst Falls (sym (beta-numbers e parts)) (numbers-falls parts (beads e parts) h)
 
+-- and are as many as the beads.
 pub length-beta : (e : ℕ) (parts : List ℕ) → length (beta e parts) ≡ beads e parts
 length-beta e parts = ap length (beta-numbers e parts) ∙ length-numbers parts (beads e parts)

@@ -20,6 +20,7 @@ use Rattle.sp_abacus_law.proofs.CoreQuotient.{places_low, set_total, set_falls}
 use Rattle.sp_abacus_law.proofs.Weight.{degree-core}
 use Rattle.sp_abacus_law.proofs.CoreQuotient.{combined_partition, combined_core, combined_quotient}
 
+-- The quotient has no more parts than nodes.
 pub lengths-degrees : (q : List (List ℕ)) → AllByRecursion IsPartition q → sum_by length q ≤ sum_by degree q
 lengths-degrees [] h = omega arith
 lengths-degrees (parts ∷ q) (h, hs) =
@@ -31,33 +32,38 @@ lengths-degrees (parts ∷ q) (h, hs) =
       lengths-degrees q hs,
     )
 
-beads_few : (e n q r : ℕ) → e * q + r ≡ n + (e - 1) → 1 ≤ e → n ≤ 20 → e ≤ 64 → (e ≤ 20 → q * e ≤ 39) × (q * e ≤ 64)
-beads_few e n q r eq he hn most = ((λ k. omega arith), all q eq)
+-- So many rows in whole rounds: they are within the rows and one round more, and within 64.
+rounds_few : (e n q r : ℕ) → e * q + r ≡ n + (e - 1) → 1 ≤ e → n ≤ 32 → e ≤ 64 →
+    (q * e ≤ n + (e - 1)) × (q * e ≤ 64)
+rounds_few e n q r eq he hn most = (omega arith, all q eq)
   where
     all : (q : ℕ) → e * q + r ≡ n + (e - 1) → q * e ≤ 64
     all zero eq = omega arith
     all (suc zero) eq = omega arith
     all (suc (suc q)) eq = omega arith
 
--- For a degree within 20 there are at most 64 beads.
+-- For a degree within 32 there are at most 64 beads: where the quotient has a part, e is at most 32, and the rows of
+-- the core, the round that they begin and e beads for each part are within 63.
 pub beads_for-few : (e : ℕ) (kappa : List ℕ) (q : List (List ℕ)) → 1 ≤ e → e ≤ 64 → IsPartition kappa →
-    AllByRecursion IsPartition q → degree kappa + e * sum_by degree q ≤ 20 → beads_for e kappa q ≤ 64
+    AllByRecursion IsPartition q → degree kappa + e * sum_by degree q ≤ 32 → beads_for e kappa q ≤ 64
 beads_for-few e kappa q he most hk hq small =
     settle (sum_by length q) (sum_by degree q) (lengths-degrees q hq) small
   where
-    few : (e ≤ 20 → beads e kappa ≤ 39) × (beads e kappa ≤ 64)
-    few =
-        beads_few e (length kappa) ((length kappa + (e - 1)) / e) ((length kappa + (e - 1)) % e)
-        (div-add-mod (length kappa + (e - 1)) e) he (omega (arith, length-degree kappa hk)) most
+    rows : length kappa ≤ degree kappa
+    rows = length-degree kappa hk
 
-    settle : (l d : ℕ) → l ≤ d → degree kappa + e * d ≤ 20 → beads e kappa + l * e ≤ 64
-    settle zero d le small = omega (arith, few.1)
+    own : (beads e kappa ≤ length kappa + (e - 1)) × (beads e kappa ≤ 64)
+    own =
+        rounds_few e (length kappa) ((length kappa + (e - 1)) / e) ((length kappa + (e - 1)) % e)
+        (div-add-mod (length kappa + (e - 1)) e) he (omega (arith, rows)) most
+
+    settle : (l d : ℕ) → l ≤ d → degree kappa + e * d ≤ 32 → beads e kappa + l * e ≤ 64
+    settle zero d le small = omega (arith, own.1)
     settle (suc l) d le small =
         let times : e * suc l ≤ e * d = mul-le-mul_left e le in
-        let narrow : e ≤ 20 = omega arith in
-        let own : beads e kappa ≤ 39 = few.0 narrow in
-        omega arith
+        omega (arith, own.0, rows)
 
+-- The degree is that of the core, and e for each node of the quotient.
 pub degree-combined : (e : ℕ) (kappa : List ℕ) (q : List (List ℕ)) → 1 ≤ e → IsPartition kappa → length q ≡ e →
     AllByRecursion IsPartition q → core e kappa ≡ kappa →
     degree (combined e kappa q) ≡ degree kappa + e * sum_by degree q
@@ -81,8 +87,9 @@ high_place e n b he le = settle (le_or_lt n (b / e))
         low : (q r : ℕ) → q < n → e * q + r ≡ b → r < e → ⊥
         low q r lt eq small = let more : e * (q + 1) ≤ e * n = mul-le-mul_left e (omega arith) in omega arith
 
+-- So the walk down from 95 meets all beads.
 pub beads-small : (e : ℕ) (kappa : List ℕ) (q : List (List ℕ)) → 1 ≤ e → e ≤ 64 → IsPartition kappa → length q ≡ e →
-    AllByRecursion IsPartition q → core e kappa ≡ kappa → degree kappa + e * sum_by degree q ≤ 20 →
+    AllByRecursion IsPartition q → core e kappa ≡ kappa → degree kappa + e * sum_by degree q ≤ 32 →
     placed e (places_for e kappa q) 96 ≡ combined_beads e kappa q
 beads-small e kappa q he most hk count hq own small = filter-same test 96 (n * e) past above
   where

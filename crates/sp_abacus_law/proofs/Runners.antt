@@ -13,8 +13,11 @@ use Rattle.sp_defs.specs.Abacus.{beta, runner, slid}
 use Rattle.sp_lists.proofs.Elements.{le_or_lt, all_map, all_filter, filter_twice, range_snoc}
 use Rattle.sp_lists.proofs.Places.{all_weaken}
 use Rattle.sp_abacus_law.specs.Beads.{down, Falls}
-use Rattle.sp_abacus_law.proofs.Sums.{eqb-differ}
+use Rattle.std.proofs.Common.{ne_eqb}
+use Rattle.std.proofs.Math.Bool.{and-true, and-false}
+use Rattle.sp_lists.proofs.Maps.{filter-map}
 
+-- One bead more, in front.
 pub runner-cons : (e b : ℕ) (bs : List ℕ) (i : ℕ) →
     runner e (b ∷ bs) i ≡ cond (nat_eq (b % e) i) ((b / e) ∷ runner e bs i) (runner e bs i)
 runner-cons e b bs i = tested (nat_eq (b % e) i) (filter (λ b. nat_eq (b % e) i) bs)
@@ -36,6 +39,7 @@ place-lt e b c i he hb lt hc = settle (le_or_lt (b / e) (c / e))
         less e m n i h hb hc = absurd (let k : e * m ≤ e * n = mul-le-mul_left e h in omega arith)
     settle (inr h) = h
 
+-- The places on a runner fall.
 pub runner-falls : (e : ℕ) (bs : List ℕ) (i : ℕ) → 1 ≤ e → Falls bs → Falls (runner e bs i)
 runner-falls e [] i he f = tt
 runner-falls e (b ∷ bs) i he (low, f) =
@@ -107,7 +111,7 @@ part-down e i k hi h (suc j) hj =
         ≡ cond (nat_lt i (suc j)) (k ∷ down k) (down k)
     settle (inr lt) =
         ap₂ (λ v w. cond v (k ∷ cond w (k ∷ down k) (down k)) (cond w (k ∷ down k) (down k)))
-        (eqb-differ j i (inr lt)) (lt-ltb i j lt)
+        (ne_eqb j i (λ same. omega arith)) (lt-ltb i j lt)
         ∙ sym (ap (λ v. cond v (k ∷ down k) (down k)) (lt-ltb i (suc j) (omega arith)))
     settle (inl le) = exact (eq-or-lt_of_le le)
       where
@@ -120,9 +124,10 @@ part-down e i k hi h (suc j) hj =
             ∙ sym (ap (λ v. cond v (k ∷ down k) (down k)) (lt-ltb i (suc j) (omega arith)))
         exact (inr lt) =
             ap₂ (λ v w. cond v (k ∷ cond w (k ∷ down k) (down k)) (cond w (k ∷ down k) (down k)))
-            (eqb-differ j i (inl lt)) (le-ltb i j (omega arith))
+            (ne_eqb j i (λ same. omega arith)) (le-ltb i j (omega arith))
             ∙ sym (ap (λ v. cond v (k ∷ down k) (down k)) (le-ltb i (suc j) (omega arith)))
 
+-- Of the first k times e numbers each runner has its first k places.
 pub runner-down : (e i k : ℕ) → i < e → runner e (down (k * e)) i ≡ down k
 runner-down e i zero hi = ap (λ n. runner e (down n) i) (nought e)
   where
@@ -161,6 +166,7 @@ filter-down n (suc k) =
 
 -- ---- beads slid down
 
+-- The numbers below n, from the greatest.
 pub down-range : (n : ℕ) → reverse (range_with_len 0 n) ≡ down n
 down-range zero = refl
 down-range (suc n) =
@@ -179,56 +185,36 @@ under e height n = filter (λ b. nat_lt (b / e) (height (b % e))) (down n)
 abbrev pub fallen : ℕ → List ℕ → List ℕ
 fallen e bs = under e (λ i. length (runner e bs i)) (length bs * e)
 
+-- The beads slid down stand below the heights of their runners.
 pub slid-under : (e : ℕ) (parts : List ℕ) → slid e parts ≡ fallen e (beta e parts)
 slid-under e parts =
     ap (λ bs. filter (λ b. nat_lt (b / e) (length (runner e (beta e parts) (b % e)))) bs)
     (down-range (length (beta e parts) * e))
 
--- A filter by the place.
-filter-place : (e n : ℕ) (bs : List ℕ) →
-    map (λ b. b / e) (filter (λ b. nat_lt (b / e) n) bs) ≡ filter (λ p. nat_lt p n) (map (λ b. b / e) bs)
-filter-place e n [] = refl
-filter-place e n (b ∷ bs) = tested (nat_lt (b / e) n) (filter-place e n bs)
-  where
-    tested : (v : Bool) →
-        map (λ b. b / e) (filter (λ b. nat_lt (b / e) n) bs) ≡ filter (λ p. nat_lt p n) (map (λ b. b / e) bs) →
-        map (λ b. b / e) (cond v (b ∷ filter (λ b. nat_lt (b / e) n) bs) (filter (λ b. nat_lt (b / e) n) bs))
-        ≡ cond v ((b / e) ∷ filter (λ p. nat_lt p n) (map (λ b. b / e) bs))
-        (filter (λ p. nat_lt p n) (map (λ b. b / e) bs))
-    tested true h = ap (λ r. (b / e) ∷ r) h
-    tested false h = h
-
 abbrev on : ℕ → ℕ → ℕ → Bool
 on e i b = nat_eq (b % e) i
 
-abbrev low : ℕ → (ℕ → ℕ) → ℕ → Bool
-low e height b = nat_lt (b / e) (height (b % e))
-
-low_on : (e : ℕ) (height : ℕ → ℕ) (i b : ℕ) →
-    (low e height b && on e i b) ≡ (on e i b && nat_lt (b / e) (height i))
-low_on e height i b = tested (on e i b) refl
+kept_on : (e i : ℕ) (t : ℕ → ℕ → Bool) (b : ℕ) → (t (b / e) (b % e) && on e i b) ≡ (on e i b && t (b / e) i)
+kept_on e i t b = tested (on e i b) refl
   where
-    with_true : (v : Bool) → (v && true) ≡ v
-    with_true true = refl
-    with_true false = refl
+    tested : (v : Bool) → on e i b ≡ v → (t (b / e) (b % e) && v) ≡ (v && t (b / e) i)
+    tested true same = and-true (t (b / e) (b % e)) ∙ ap (t (b / e)) (eqb-true (b % e) i same)
+    tested false same = and-false (t (b / e) (b % e))
 
-    with_false : (v : Bool) → (v && false) ≡ false
-    with_false true = refl
-    with_false false = refl
+-- Of beads kept by a test of place and runner, a runner has the places that pass the test.
+pub runner-kept : (e i : ℕ) (t : ℕ → ℕ → Bool) (bs : List ℕ) →
+    runner e (filter (λ b. t (b / e) (b % e)) bs) i ≡ filter (λ p. t p i) (runner e bs i)
+runner-kept e i t bs =
+    ap (map (λ b. b / e))
+    (filter_twice (on e i) (λ b. t (b / e) (b % e)) bs
+    ∙ filter_agree (λ b. t (b / e) (b % e) && on e i b) (λ b. on e i b && t (b / e) i) (kept_on e i t) bs
+    ∙ sym (filter_twice (λ b. t (b / e) i) (on e i) bs))
+    ∙ sym (filter-map (λ p. t p i) (λ b. b / e) (filter (on e i) bs))
 
-    tested : (v : Bool) → on e i b ≡ v → (low e height b && v) ≡ (v && nat_lt (b / e) (height i))
-    tested true t =
-        with_true (low e height b) ∙ ap (λ j. nat_lt (b / e) (height j)) (eqb-true (b % e) i t)
-    tested false t = with_false (low e height b)
-
+-- Of the numbers below some heights a runner has the places below its own.
 pub runner-under : (e : ℕ) (height : ℕ → ℕ) (k i : ℕ) → i < e →
     runner e (under e height (k * e)) i ≡ down (min k (height i))
 runner-under e height k i hi =
-    ap (map (λ b. b / e))
-    (filter_twice (on e i) (low e height) (down (k * e))
-    ∙ filter_agree (λ b. low e height b && on e i b) (λ b. on e i b && nat_lt (b / e) (height i))
-    (low_on e height i) (down (k * e))
-    ∙ sym (filter_twice (λ b. nat_lt (b / e) (height i)) (on e i) (down (k * e))))
-    ∙ filter-place e (height i) (filter (on e i) (down (k * e)))
+    runner-kept e i (λ p j. nat_lt p (height j)) (down (k * e))
     ∙ ap (filter (λ p. nat_lt p (height i))) (runner-down e i k hi)
     ∙ filter-down (height i) k

@@ -26,10 +26,12 @@ full-first b below f h = falls-full (b ∷ below) f (omega arith, less)
         wider [] h = tt
         wider (x ∷ xs) (h, hs) = (omega arith, wider xs hs)
 
+-- The first numbers show the empty partition.
 pub shown-down : (n : ℕ) → shown (down n) ≡ []
 shown-down zero = refl
 shown-down (suc n) = shown-none n (down n) (omega (arith, length-down n))
 
+-- The degree is the sum of the numbers less that of the first ones.
 pub degree-shown : (bs : List ℕ) → Falls bs → degree (shown bs) + sum (down (length bs)) ≡ sum bs
 degree-shown [] f = refl
 degree-shown (b ∷ below) f = settle (degree-shown below f.1) (le_or_lt b (length below))
@@ -48,6 +50,7 @@ degree-shown (b ∷ below) f = settle (degree-shown below f.1) (le_or_lt b (leng
         ∙ omega arith
         ∙ sym (sum_by-cons (λ x. x) b below)
 
+-- The numbers of the partition that they show are the same again.
 pub numbers-shown : (bs : List ℕ) → Falls bs → numbers (shown bs) (length bs) ≡ bs
 numbers-shown [] f = refl
 numbers-shown (b ∷ below) f = settle (numbers-shown below f.1) (le_or_lt b (length below))
@@ -75,6 +78,7 @@ shown-first (b ∷ below) n f (h, hs) = settle (le_or_lt b (length below))
     settle (inr k) =
         subst (λ parts. slice_index parts 0 + suc (length below) ≤ n) (sym (shown-more b below k)) (omega arith)
 
+-- Numbers that fall show a partition,
 pub shown-partition : (bs : List ℕ) → Falls bs → IsPartition (shown bs)
 shown-partition [] f = IsPartition-nil
 shown-partition (b ∷ below) f = settle (shown-partition below f.1) (le_or_lt b (length below))
@@ -87,6 +91,7 @@ shown-partition (b ∷ below) f = settle (shown-partition below f.1) (le_or_lt b
         (let first = shown-first below b f.1 f.0 in omega arith)
         rest)
 
+-- which has no more parts than they are.
 pub shown-short : (bs : List ℕ) → length (shown bs) ≤ length bs
 shown-short [] = omega arith
 shown-short (b ∷ below) = settle (shown-short below) (le_or_lt b (length below))

@@ -13,14 +13,16 @@ use Rattle.sp_abacus_law.specs.Beads.{down, Falls}
 use Rattle.sp_abacus_law.proofs.Falling.{length-down, down-falls, falls-filter}
 use Rattle.sp_abacus_law.proofs.Numbers.{shown-beta, beta-falls}
 use Rattle.sp_abacus_law.proofs.Shown.{degree-shown, shown-partition}
-use Rattle.sp_abacus_law.proofs.Sums.{sum-alike, sum-plus, sum-times, length-sum, sum-classes}
+use Rattle.sp_lists.proofs.Sums.{sum-ones}
 use Rattle.sp_abacus_law.proofs.Runners.{runner-falls, runner-sum, fallen, slid-under, runner-under}
+use Rattle.sp_lists.proofs.Sums.{sum-alike, sum-plus, sum-times, sum-classes}
 
 -- ---- numbers by their runners
 
 abbrev height : ℕ → List ℕ → ℕ → ℕ
 height e bs i = length (runner e bs i)
 
+-- The sum of the numbers, runner by runner.
 pub sum-runners : (e : ℕ) (bs : List ℕ) → 1 ≤ e →
     sum bs ≡ sum_by (λ i. i * length (runner e bs i) + e * sum (runner e bs i)) (range_with_len 0 e)
 sum-runners e bs he =
@@ -30,17 +32,19 @@ sum-runners e bs he =
     (range_all (λ i. sum_by (λ b. b) (filter (λ b. nat_eq (b % e) i) bs)
     ≡ i * length (runner e bs i) + e * sum (runner e bs i)) 0 e (λ i lo hi. runner-sum e i bs))
 
+-- The number of beads, runner by runner.
 pub length-runners : (e : ℕ) (bs : List ℕ) → 1 ≤ e →
     length bs ≡ sum_by (λ i. length (runner e bs i)) (range_with_len 0 e)
 length-runners e bs he =
-    length-sum bs
+    sym (sum-ones bs)
     ∙ sum-classes e (λ b. b % e) (λ _. 1) bs (λ b. mod-lt b he)
     ∙ sum-alike (λ i. sum_by (λ _. 1) (filter (λ b. nat_eq (b % e) i) bs)) (λ i. length (runner e bs i))
     (range_with_len 0 e)
     (range_all (λ i. sum_by (λ _. 1) (filter (λ b. nat_eq (b % e) i) bs) ≡ length (runner e bs i)) 0 e
-    (λ i lo hi. sym (length-sum (filter (λ b. nat_eq (b % e) i) bs))
+    (λ i lo hi. sum-ones (filter (λ b. nat_eq (b % e) i) bs)
     ∙ sym (length-map (filter (λ b. nat_eq (b % e) i) bs) (λ b. b / e))))
 
+-- A runner has no more beads than there are.
 pub runner-short : (e : ℕ) (bs : List ℕ) (i : ℕ) → length (runner e bs i) ≤ length bs
 runner-short e bs i =
     omega (
@@ -52,6 +56,7 @@ runner-short e bs i =
 
 -- ---- the beads slid down
 
+-- A runner whose beads have slid down has them at its first places.
 pub runner-fallen : (e : ℕ) (bs : List ℕ) (i : ℕ) → i < e → runner e (fallen e bs) i ≡ down (length (runner e bs i))
 runner-fallen e bs i hi =
     runner-under e (height e bs) (length bs) i hi
@@ -60,10 +65,12 @@ runner-fallen e bs i hi =
     least : (k n : ℕ) → n ≤ k → min k n ≡ n
     least k n h = omega arith
 
+-- The beads slid down fall,
 pub fallen-falls : (e : ℕ) (bs : List ℕ) → Falls (fallen e bs)
 fallen-falls e bs =
     falls-filter (λ b. nat_lt (b / e) (height e bs (b % e))) (down (length bs * e)) (down-falls (length bs * e))
 
+-- and are as many as before.
 pub length-fallen : (e : ℕ) (bs : List ℕ) → 1 ≤ e → length (fallen e bs) ≡ length bs
 length-fallen e bs he =
     length-runners e (fallen e bs) he
@@ -75,21 +82,26 @@ length-fallen e bs he =
     inside : (e i : ℕ) → i < 0 + e → i < e
     inside e i h = omega arith
 
+-- So it is for the beads of a partition: a runner has its first places,
 pub runner-slid : (e : ℕ) (parts : List ℕ) (i : ℕ) → i < e →
     runner e (slid e parts) i ≡ down (length (runner e (beta e parts) i))
 runner-slid e parts i hi = ap (λ bs. runner e bs i) (slid-under e parts) ∙ runner-fallen e (beta e parts) i hi
 
+-- the numbers fall,
 pub slid-falls : (e : ℕ) (parts : List ℕ) → Falls (slid e parts)
 slid-falls e parts = subst Falls (sym (slid-under e parts)) (fallen-falls e (beta e parts))
 
+-- and they are as many as before.
 pub length-slid : (e : ℕ) (parts : List ℕ) → 1 ≤ e → length (slid e parts) ≡ length (beta e parts)
 length-slid e parts he = ap length (slid-under e parts) ∙ length-fallen e (beta e parts) he
 
+-- The core is a partition.
 pub core-partition : (e : ℕ) (parts : List ℕ) → IsPartition (core e parts)
 core-partition e parts = shown-partition (slid e parts) (slid-falls e parts)
 
 -- ---- the degree
 
+-- The weight is the sum of the degrees that the runners show.
 pub weight-runners : (e : ℕ) (parts : List ℕ) →
     weight e parts ≡ sum_by (λ i. degree (shown (runner e (beta e parts) i))) (range_with_len 0 e)
 weight-runners e parts = sum-map degree (λ i. shown (runner e (beta e parts) i)) (range_with_len 0 e)
@@ -131,6 +143,7 @@ sum-slid e parts he h =
         (ap length (runner-slid e parts i hi) ∙ length-down (height e (beta e parts) i))
         (ap sum (runner-slid e parts i hi))
 
+-- The degree is that of the core, and e for each node of the quotient.
 pub degree-core : (e : ℕ) (parts : List ℕ) → 1 ≤ e → IsPartition parts →
     degree parts ≡ degree (core e parts) + e * weight e parts
 degree-core e parts he h =

@@ -5,6 +5,7 @@ use Rattle.sp_defs.specs.Partition.{degree}
 use Rattle.sp_defs.specs.Abacus.{beads, shown, runner}
 use Rattle.sp_abacus_law.specs.Beads.{down, numbers}
 
+-- n is in the list.
 abbrev pub member : ℕ → List ℕ → Bool
 member n [] = false
 member n (x ∷ xs) = nat_eq x n || member n xs

@@ -8,7 +8,7 @@ use Rattle.std.proofs.lemmas.Int.{ints}
 use Rattle.std.specs.Ordering.{MatchOrdering}
 use Rattle.std.specs.Cmp.{int_ranks}
 use Rattle.sp_defs.specs.Laurent.{Laurent, coefficient, put, placed, add_term, collect, plus, negate, products, times}
-use Rattle.sp_defs.specs.Laurent.{bar, lift, one, IsLaurent, IsBarInvariant, IsPositive}
+use Rattle.sp_defs.specs.Laurent.{bar, lift, one, int_sum, IsLaurent, IsBarInvariant, IsPositive}
 use Rattle.sp_algebra.proofs.Whole.{+ℤ-times, times-+ℤ, *ℤ_assoc}
 use Rattle.sp_algebra.proofs.Coefficients.{at, by_eq, at-same, at-other, coefficient-append, coefficient-collect}
 use Rattle.sp_algebra.proofs.Coefficients.{same_laurent, IsLaurent-collect}
@@ -221,6 +221,23 @@ coefficient-products ((k, c) ∷ p) q j =
 pub coefficient-times : (p q : Laurent) (j : ℤ) → coefficient (times p q) j ≡ act p (coefficient q) j
 unfolding times
 coefficient-times p q j = coefficient-collect (products p q) j ∙ coefficient-products p q j
+
+act-summed : (p : Laurent) (f : ℤ → ℤ) (j : ℤ) → act p f j ≡ int_sum (map (λ t. t.1 *ℤ f (j -ℤ t.0)) p)
+unfolding act int_sum
+act-summed [] f j = refl
+act-summed ((k, c) ∷ p) f j = ap (λ n. c *ℤ f (j -ℤ k) +ℤ n) (act-summed p f j)
+
+-- the coefficient of a product at j: the sum, over the terms c * v^k of the first factor, of c times the coefficient of
+-- the second factor at j - k
+pub coefficient-product : (p q : Laurent) (j : ℤ)
+    → coefficient (times p q) j ≡ int_sum (map (λ t. t.1 *ℤ coefficient q (j -ℤ t.0)) p)
+coefficient-product p q j = coefficient-times p q j ∙ act-summed p (coefficient q) j
+
+-- and what is there once a product was added
+pub coefficient-plus_times : (o p q : Laurent) (j : ℤ)
+    → coefficient (plus o (times p q)) j ≡ coefficient o j +ℤ int_sum (map (λ t. t.1 *ℤ coefficient q (j -ℤ t.0)) p)
+coefficient-plus_times o p q j =
+    coefficient-plus o (times p q) j ∙ ap (λ n. coefficient o j +ℤ n) (coefficient-product p q j)
 
 -- the action is additive in the function
 pub act-sum : (p : Laurent) (f g : ℤ → ℤ) (j : ℤ) → act p (λ i. f i +ℤ g i) j ≡ act p f j +ℤ act p g j

@@ -1,24 +1,13 @@
 -- Where all coefficients are positive nothing cancels: the size of a sum is the sum of the sizes.
-use Rattle.std.proofs.Common.{◌≡◌, ◌+◌, cond, List, [], ◌∷◌, ◌++◌, map, refl, sym, ◌∙◌, ap, ap₂, arith}
+use Rattle.std.proofs.Common.{◌≡◌, ◌+◌, List, [], ◌∷◌, ◌++◌, map, refl, sym, ◌∙◌, ap, ap₂, arith}
 use Rattle.std.proofs.Common.{ℤ, pos, negsuc, ◌+ℤ◌, ◌*ℤ◌, ◌<ℤ◌, Less, Equal, Greater, int_cmp, sum_by, unsigned_abs}
 use Rattle.std.proofs.lemmas.Int.{ints}
 use Rattle.std.specs.List.{AllByRecursion}
-use Rattle.std.proofs.lemmas.List.Sums.{sum_by-cons, sum_by-append}
-use Rattle.sp_defs.specs.Laurent.{Laurent, put, placed, add_term, collect, plus, times, products, power, sum_over, size}
+use Rattle.std.proofs.lemmas.List.Sums.{sum_by-cons}
+use Rattle.sp_defs.specs.Laurent.{Laurent, placed, add_term, collect, plus, times, products, power, sum_over, size}
 use Rattle.sp_lists.proofs.Elements.{all_append}
-use Rattle.sp_algebra.proofs.Coefficients.{by_eq}
+use Rattle.sp_algebra.proofs.Sizes.{size-cons, size-append, size-put}
 use Rattle.sp_algebra.proofs.Positive.{AllPositive, positive_collect, positive_plus}
-
-pub size-cons : (k c : ℤ) (p : Laurent) → size ((k, c) ∷ p) ≡ unsigned_abs c + size p
-size-cons k c p = sum_by-cons (λ t. unsigned_abs t.1) (k, c) p
-
-pub size-append : (p q : Laurent) → size (p ++ q) ≡ size p + size q
-size-append p q = sum_by-append (λ t. unsigned_abs t.1) p q
-
-size-put : (k c : ℤ) (p : Laurent) → pos 0 <ℤ c → size (put k c p) ≡ unsigned_abs c + size p
-size-put k c p hc =
-    by_eq c (pos 0) (λ b. size (cond b p ((k, c) ∷ p)) ≡ unsigned_abs c + size p)
-    (λ z. absurd (omega (arith, ints, z, hc))) (λ _. size-cons k c p)
 
 abs-sum : (c d : ℤ) → pos 0 <ℤ c → pos 0 <ℤ d → unsigned_abs (c +ℤ d) ≡ unsigned_abs c + unsigned_abs d
 abs-sum (pos m) (pos n) hc hd = refl
@@ -27,14 +16,12 @@ abs-sum (negsuc m) d hc hd = absurd (omega (arith, ints, hc))
 
 size-add_term : (k c : ℤ) (p : Laurent) → pos 0 <ℤ c → AllPositive p → size (add_term k c p) ≡ unsigned_abs c + size p
 unfolding add_term
-size-add_term k c [] hc h = size-put k c [] hc
+size-add_term k c [] hc h = size-put k c []
 size-add_term k c ((j, d) ∷ p) hc (hd, h) =
     elim (int_cmp k j) as (λ o. size (placed o (k, c) (j, d) p (add_term k c p)) ≡ unsigned_abs c + size ((j, d) ∷ p)) [
-      | Less ↦ size-put k c ((j, d) ∷ p) hc
+      | Less ↦ size-put k c ((j, d) ∷ p)
       | Equal ↦
-          let sum : size (put k (c +ℤ d) p) ≡ unsigned_abs (c +ℤ d) + size p =
-          size-put k (c +ℤ d) p (omega (arith, ints)) in
-          omega (arith, sum, abs-sum c d hc hd, size-cons j d p)
+          omega (arith, size-put k (c +ℤ d) p, abs-sum c d hc hd, size-cons j d p)
       | Greater ↦ omega (arith, size-cons j d (add_term k c p), size-add_term k c p hc h, size-cons j d p)
     ]
 

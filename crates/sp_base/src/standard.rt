@@ -9,37 +9,53 @@ use crate::{Failed, Sink, Source};
 use std::io::{Read, Write};
 use std::marker::Model;
 
-/// A reader as a source that counts its errors.
-pub struct StdSource<R> {
-    reader: R,
+/// A stream of std's that counts its errors: a source over a reader, a sink over a writer. A write that takes no byte
+/// counts as an error.
+pub struct Counting<T> {
+    stream: T,
     faults: u64,
 }
 
-impl<R> Model for StdSource<R> {
-    ghost Value = { Counted R };
+/// A reader as a source.
+pub type StdSource<R> = Counting<R>;
 
-    ghost view = { λ s. record { stream = s.reader; faults = s.faults } };
+/// A writer as a sink.
+pub type StdSink<W> = Counting<W>;
+
+impl<T> Model for Counting<T> {
+    ghost Value = { Counted T };
+
+    ghost view = { λ s. record { stream = s.stream; faults = s.faults } };
 }
 
-impl<R: Drop> Drop for StdSource<R> {
+impl<T: Drop> Drop for Counting<T> {
     fn drop(self) {
-        let StdSource {
-            reader: _,
+        let Counting {
+            stream: _,
             faults: _,
         } = self;
     }
 }
 
-impl<R: Read> StdSource<R> {
-    /// A source over `reader` that has had no fault.
-    pub fn new(reader: R) -> StdSource<R>
-        ensures { result ≡ record { stream = reader; faults = 0 } }
+impl<T> Counting<T> {
+    /// A source or a sink over `stream` that has had no fault.
+    pub fn new(stream: T) -> Counting<T>
+        ensures { result ≡ record { stream = stream; faults = 0 } }
     {
-        StdSource { reader, faults: 0 }
+        Counting { stream, faults: 0 }
+    }
+
+    fn failed(&mut self) -> Failed
+        ensures stream { self.new.stream ≡ self.old.stream }
+        ensures faults { self.new.faults ≡ one_more self.old.faults }
+        ensures later { self.old.faults ≤ self.new.faults }
+    {
+        self.faults = self.faults.saturating_add(1);
+        Failed
     }
 }
 
-impl<R: Read> Source for StdSource<R> {
+impl<R: Read> Source for Counting<R> {
     ghost left = { λ _. None };
 
     ghost faults = { λ s. s.faults };
@@ -55,47 +71,14 @@ impl<R: Read> Source for StdSource<R> {
         ensures no_fault { OnOk result (self.new.faults ≡ self.old.faults) }
         ensures fault { OnErr result (self.new.faults ≡ one_more self.old.faults) }
     {
-        match self.reader.read(into) {
+        match self.stream.read(into) {
             Ok(count) => Ok(count),
-            Err(_) => {
-                self.faults = self.faults.saturating_add(1);
-                Err(Failed)
-            }
+            Err(_) => Err(self.failed()),
         }
     }
 }
 
-/// A writer as a sink that counts its errors. A write that takes no byte counts as an error.
-pub struct StdSink<W> {
-    writer: W,
-    faults: u64,
-}
-
-impl<W> Model for StdSink<W> {
-    ghost Value = { Counted W };
-
-    ghost view = { λ s. record { stream = s.writer; faults = s.faults } };
-}
-
-impl<W: Drop> Drop for StdSink<W> {
-    fn drop(self) {
-        let StdSink {
-            writer: _,
-            faults: _,
-        } = self;
-    }
-}
-
-impl<W: Write> StdSink<W> {
-    /// A sink over `writer` that has had no fault.
-    pub fn new(writer: W) -> StdSink<W>
-        ensures { result ≡ record { stream = writer; faults = 0 } }
-    {
-        StdSink { writer, faults: 0 }
-    }
-}
-
-impl<W: Write> Sink for StdSink<W> {
+impl<W: Write> Sink for Counting<W> {
     ghost written = { λ _. None };
 
     ghost faults = { λ s. s.faults };
@@ -111,12 +94,9 @@ impl<W: Write> Sink for StdSink<W> {
         ensures no_fault { OnOk result (self.new.faults ≡ self.old.faults) }
         ensures fault { OnErr result (self.new.faults ≡ one_more self.old.faults) }
     {
-        match self.writer.write(from) {
+        match self.stream.write(from) {
             Ok(count) if count > 0 => Ok(count),
-            _ => {
-                self.faults = self.faults.saturating_add(1);
-                Err(Failed)
-            }
+            _ => Err(self.failed()),
         }
     }
 }

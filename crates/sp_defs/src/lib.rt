@@ -1,2 +1,2 @@
-//! The definitions: partitions, nodes, Laurent polynomials, Fock space, ladders, rows, signatures, the abacus and texts.
+//! The definitions: partitions, nodes, polynomials, Fock space, ladders, rows, signatures, the abacus and texts.
 #![tactic(auto)]

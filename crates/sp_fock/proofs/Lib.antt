@@ -2,3 +2,4 @@ mod Search
 mod Adding
 mod Growing
 mod Tallies
+mod Rows

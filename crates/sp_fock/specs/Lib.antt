@@ -6,3 +6,6 @@ pub mod Sum
 pub mod Print
 pub mod Growth
 pub mod Cells
+pub mod Rows
+pub mod Merged
+pub mod Left

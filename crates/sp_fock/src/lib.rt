@@ -1,10 +1,13 @@
-//! Vectors of the Fock space: finite maps from the partitions of one degree to Laurent polynomials; vectors with totals,
-//! and tables of polynomials.
+//! Vectors of the Fock space: finite maps from the partitions of one degree to Laurent polynomials; vectors with
+//! totals, and tables of polynomials.
 #![tactic(auto)]
 
 mod fault;
 mod grid;
 mod joined;
+mod meeting;
+mod merged;
+mod row;
 mod sums;
 mod tally;
 mod terms;
@@ -14,6 +17,7 @@ mod vector;
 
 pub use fault::FockFault;
 pub use grid::Grid;
+pub use row::Row;
 pub use tally::Tally;
 pub use terms::Terms;
 pub use vector::Vector;

@@ -169,23 +169,34 @@ fn totals_grow_where_terms_cancel(rt: HostRuntime) -> Result<(), Fail> {
     Ok(())
 }
 
-// The matrix of degree 2 for e = 2.
+// A table of degree 2 in which one cell is 0.
 #[test]
 fn a_grid_has_the_cells_that_it_was_built_from(rt: HostRuntime) -> Result<(), Fail> {
     let alloc = rt.alloc();
     let upper = Partition::from_parts(&[2])?;
     let lower = Partition::from_parts(&[1, 1])?;
-    let columns = vec![in alloc; upper]?;
+    let columns = vec![in alloc; upper, lower]?;
     let lines = vec![in alloc; upper, lower]?;
-    let first = vec![in alloc; Laurent::monomial(alloc, 1, 0)?]?;
-    let second = vec![in alloc; Laurent::monomial(alloc, 3, 1)?]?;
+    let first = vec![in alloc; Laurent::monomial(alloc, 1, 0)?, Laurent::zero(alloc)]?;
+    let second = vec![in alloc;
+        Laurent::monomial(alloc, 3, 1)?,
+        Laurent::monomial(alloc, 2, 0)?,
+    ]?;
     let cells = vec![in alloc; first, second]?;
     let grid = Grid::build(alloc, 2, columns, lines, cells)?;
     assert_eq!(rt; grid.degree(), 2);
-    assert_eq!(rt; grid.columns(), [upper].as_slice());
+    assert_eq!(rt; grid.columns(), [upper, lower].as_slice());
     assert_eq!(rt; grid.lines(), [upper, lower].as_slice());
     assert_eq!(rt; grid.cell(0, 0).size(), 1);
+    assert_eq!(rt; grid.cell(0, 1).size(), 0);
     assert_eq!(rt; grid.cell(1, 0).size(), 3);
-    assert_eq!(rt; grid.row(1).len(), 1);
+    assert_eq!(rt; grid.cell(1, 1).size(), 2);
+    assert_eq!(rt; grid.line_cells(0).len(), 1);
+    assert_eq!(rt; grid.line_cells(1).len(), 2);
+    let mut sizes = Vec::new(alloc);
+    for cell in grid.row(0) {
+        sizes.push(cell.size())?;
+    }
+    assert_eq!(rt; sizes.as_slice(), [1, 0].as_slice());
     Ok(())
 }

@@ -6,3 +6,4 @@ pub mod Steps
 pub mod JoinedAll
 pub mod Totals
 pub mod Tally
+pub mod Sparse

@@ -1,5 +1,5 @@
 -- Totals as the entries of constants, so that what is known of vectors is known of totals.
-use Rattle.std.proofs.Common.{◌≡◌, ◌≢◌, ℕ, zero, suc, ◌+◌, ◌*◌, ◌<◌, ◌≤◌, ◌↔◌, Bool, true, false, cond, List, [], ◌∷◌}
+use Rattle.std.proofs.Common.{◌≡◌, ◌≢◌, ℕ, zero, suc, ◌+◌, ◌*◌, ◌<◌, ◌≤◌, ◌↔◌, true, false, cond, List, [], ◌∷◌}
 use Rattle.std.proofs.Common.{map, filter, length, get_or, pos, nat_lt, refl, sym, ◌∙◌, ap, ap₂, subst, arith, lt-ltb}
 use Rattle.std.proofs.Common.{is_eq}
 use Rattle.std.proofs.Math.ListN.{get_or-map}
@@ -14,6 +14,7 @@ use Rattle.sp_defs.specs.Partition.{partitions, compare, Ascending, IsPartitionO
 use Rattle.sp_defs.specs.Laurent.{Laurent, IsLaurent, collect, size}
 use Rattle.sp_defs.specs.Power.{Entries, vector_of, entries, IsVector, greatest}
 use Rattle.sp_lists.proofs.Elements.{all_every, all_map, map_all}
+use Rattle.sp_lists.proofs.Maps.{map-filter}
 use Rattle.sp_shapes.proofs.Order.{all_mono}
 use Rattle.sp_fock_law.specs.Joined.{Joint, joined, is_nonzero}
 use Rattle.sp_fock_law.specs.Tally.{Totals, total_of, totals, IsTotals, constant, constants}
@@ -50,19 +51,6 @@ positive_constant (suc k) ne = omega arith
 
 -- ---- lists of totals
 
--- Where a test and a map commute, so do filtering by the test and mapping.
-map_filter : {X Y : Type 0} (g : X → Y) (p : X → Bool) (q : Y → Bool) (xs : List X)
-    → AllByRecursion (λ x. p x ≡ q (g x)) xs → map g (filter p xs) ≡ filter q (map g xs)
-map_filter g p q [] h = refl
-map_filter g p q (x ∷ xs) (h, hs) =
-    elim (p x) as (λ b. p x ≡ b → map g (cond b (x ∷ filter p xs) (filter p xs)) ≡ cond (q (g x))
-    (g x ∷ filter q (map g xs)) (filter q (map g xs))) [
-      | true ↦ λ e. ap (λ r. g x ∷ r) (map_filter g p q xs hs)
-          ∙ ap (λ b. cond b (g x ∷ filter q (map g xs)) (filter q (map g xs))) (sym e ∙ h)
-      | false ↦ λ e. map_filter g p q xs hs
-          ∙ ap (λ b. cond b (g x ∷ filter q (map g xs)) (filter q (map g xs))) (sym e ∙ h)
-    ] refl
-
 pub vector_of-constants : (ts : Totals) (lambda : List ℕ)
     → vector_of (constants ts) lambda ≡ constant (total_of ts lambda)
 unfolding vector_of total_of constant
@@ -89,7 +77,7 @@ constants_injective ts us e = sym (sizes-constants ts) ∙ ap (map (λ t. (t.0, 
 constants-filter : (ts : Totals)
     → constants (filter (λ t. nat_lt 0 t.1) ts) ≡ filter (λ t. is_nonzero t.1) (constants ts)
 constants-filter ts =
-    map_filter (λ t. (t.0, constant t.1)) (λ t. nat_lt 0 t.1) (λ t. is_nonzero t.1) ts
+    map-filter (λ t. (t.0, constant t.1)) (λ t. nat_lt 0 t.1) (λ t. is_nonzero t.1) ts
     (all_every (λ t. nat_lt 0 t.1 ≡ is_nonzero (constant t.1)) ts (λ t. is_nonzero-constant t.1))
 
 constants-totals : (n : ℕ) (total : List ℕ → ℕ)
@@ -193,7 +181,7 @@ pub sizes-totals : (n : ℕ) (es : Entries) → IsVector n es
     → map (λ t. (t.0, size t.1)) es ≡ totals n (λ lambda. size (vector_of es lambda))
 sizes-totals n es h =
     ap (map (λ t. (t.0, size t.1))) (sym (entries-vector_of n es h))
-    ∙ map_filter (λ t. (t.0, size t.1)) (λ t. is_nonzero t.1) (λ t. nat_lt 0 t.1) all
+    ∙ map-filter (λ t. (t.0, size t.1)) (λ t. is_nonzero t.1) (λ t. nat_lt 0 t.1) all
     (all_map (λ t. is_nonzero t.1 ≡ nat_lt 0 (size t.1)) (λ x. (x, vector_of es x)) (partitions n)
     (all_every (λ x. is_nonzero (vector_of es x) ≡ nat_lt 0 (size (vector_of es x))) (partitions n)
     (λ x. size_positive (vector_of es x) (IsLaurent-vector_of es h.polynomials x))))

@@ -36,7 +36,8 @@ use Rattle.std.proofs.lemmas.Cmp.{nat_list_cmp_total}
 use Rattle.sp_defs.specs.Partition.{compare, partitions, Ascending, IsPartitionOf, IsEarlier}
 use Rattle.sp_defs.specs.Laurent.{Laurent, IsLaurent, collect}
 use Rattle.sp_defs.specs.Power.{Vector, Entries, vector_of, entries, IsVector}
-use Rattle.sp_lists.proofs.Elements.{all_filter, all_map, map_all}
+use Rattle.sp_lists.proofs.Elements.{all_every, all_filter, all_map, map_all}
+use Rattle.sp_lists.proofs.Occurrence.{at_occurs}
 use Rattle.sp_shapes.proofs.Order.{later_than, less_trans, equal_self, same_lists, all_mono}
 use Rattle.sp_shapes.proofs.Listing.{Occurs, all_partitions, each_partition, partitions_ascend, Ascending-filter}
 use Rattle.sp_fock_law.specs.Joined.{is_nonzero}
@@ -156,15 +157,6 @@ same_entries n ((kappa, p) ∷ es) ((lambda, q) ∷ fs) he hf e =
 
 -- ---- the entries of a vector
 
-occurs_all : {X : Type 0} (P : X → Type 0) (x : X) (xs : List X) → AllByRecursion P xs → Occurs x xs → P x
-occurs_all P x [] h o = absurd o
-occurs_all P x (y ∷ ys) (h, hs) (inl e) = subst P (sym e) h
-occurs_all P x (y ∷ ys) (h, hs) (inr o) = occurs_all P x ys hs o
-
-all_every : {X : Type 0} (P : X → Type 0) (xs : List X) → ((x : X) → P x) → AllByRecursion P xs
-all_every P [] f = tt
-all_every P (x ∷ xs) f = (f x, all_every P xs f)
-
 -- The entries at these partitions: `entries n w` where they are all partitions of n.
 abbrev pub entries_at : List (List ℕ) → Vector → Entries
 entries_at xs w = filter (λ t. is_nonzero t.1) (map (λ parts. (parts, w parts)) xs)
@@ -216,7 +208,7 @@ vector_of-entries_at (x ∷ xs) w lambda (h, hs) (inl s) =
 vector_of-entries_at (x ∷ xs) w lambda (h, hs) (inr o) =
     elim (is_nonzero (w x)) as
     (λ b. vector_of (cond b ((x, w x) ∷ entries_at xs w) (entries_at xs w)) lambda ≡ w lambda) [
-      | true ↦ vector_of-other x lambda (w x) (entries_at xs w) (ap is_eq (occurs_all (IsEarlier x) lambda xs h o))
+      | true ↦ vector_of-other x lambda (w x) (entries_at xs w) (ap is_eq (at_occurs (IsEarlier x) lambda xs o h))
           ∙ vector_of-entries_at xs w lambda hs o
       | false ↦ vector_of-entries_at xs w lambda hs o
     ]

@@ -2,3 +2,4 @@ pub mod Joined
 pub mod Addition
 pub mod Tally
 pub mod Grid
+pub mod Sparse

@@ -12,6 +12,7 @@ use Rattle.sp_good_law.proofs.MoveLaw.{move_law}
 use Rattle.sp_nodes.specs.declared.node.Node.{Node as Place}
 use Rattle.sp_nodes.specs.Nodes.{pair}
 
+-- The image of the last place is the last of the images.
 pub last-mapped : (xs : List Place) → option_map pair (slice_get xs (length xs - 1)) ≡ last (map pair xs)
 unfolding last
 last-mapped [] = refl

@@ -9,8 +9,7 @@ use Rattle.sp_defs.specs.Partition.{degree, part}
 use Rattle.sp_defs.specs.Node.{Node, is_addable}
 use Rattle.sp_defs.specs.Signature.{path, cogood, climb, add_node, grow}
 use Rattle.sp_lists.proofs.Elements.{le_or_lt, all_left, all_right}
-use Rattle.sp_shapes.proofs.Corners.{addable_row}
-use Rattle.sp_shapes.proofs.Regular.{index_short}
+use Rattle.sp_shapes.proofs.Corners.{addable_room}
 use Rattle.sp_shapes.proofs.Listing.{IsPartition-nil}
 use Rattle.sp_shapes.proofs.Grow.{degree-grow}
 use Rattle.sp_partition.specs.Held.{IsHeld}
@@ -19,6 +18,7 @@ use Rattle.sp_good.specs.Climb.{negated_path, Stops}
 
 -- ---- one residue after the other
 
+-- Two ways up, one after the other.
 pub climb-append : (e : ℕ) (xs ys parts reached : List ℕ) → climb e xs parts ≡ Some reached →
     climb e (xs ++ ys) parts ≡ climb e ys reached
 unfolding climb
@@ -35,6 +35,7 @@ climb-append e (i ∷ xs) ys parts reached h =
     settle None more h = let no : ◌≡◌ {A = Option (List ℕ)} None (Some reached) = h in cc
     settle (Some x) more h = more x h
 
+-- A way that stops is not gone on with.
 pub climb-lost : (e : ℕ) (xs ys parts : List ℕ) → climb e xs parts ≡ None → climb e (xs ++ ys) parts ≡ None
 unfolding climb
 climb-lost e [] ys parts h = let no : ◌≡◌ {A = Option (List ℕ)} (Some parts) None = h in cc
@@ -185,17 +186,6 @@ module _ (e : ℕ) (ups : List ℕ) where
 empty_held : IsHeld []
 empty_held = record { partition = IsPartition-nil; small = omega arith }
 
-place_of : (parts : List ℕ) (row : ℕ) → is_addable parts (row, part parts row + 1) ≡ true → row - 1 ≤ length parts
-place_of parts row h = settle (le_or_lt row 1)
-  where
-    settle : (row ≤ 1) ⊎ (1 < row) → row - 1 ≤ length parts
-    settle (inl le) = omega arith
-    settle (inr lt) =
-        let longer : part parts row < part parts (row - 1) = addable_row parts row h lt in
-        let above : row - 1 - 1 < length parts =
-        index_short parts (row - 1 - 1) (omega (arith, longer)) in
-        omega (arith, above)
-
 -- The first `step` residues of `ups` lead to `at`, and those of `rest` come next, from its last to its first.
 pub record Climbed (e : ℕ) (ups rest at : List ℕ) (step : ℕ) : Type 0 where
   pub left : drop step ups ≡ map (λ i. (e - i) % e) (reverse rest)
@@ -205,6 +195,7 @@ pub record Climbed (e : ℕ) (ups rest at : List ℕ) (step : ℕ) : Type 0 wher
   pub few : length ups ≤ 32
   pub below : AllByRecursion (λ i. i < e) rest
 
+-- At the start nothing is climbed.
 pub climbed_start : (e : ℕ) (mu residues : List ℕ) → residues ≡ path e mu → length residues ≡ degree mu → IsHeld mu →
     AllByRecursion (λ i. i < e) residues → Climbed e (negated_path e mu) residues [] 0
 unfolding climb
@@ -250,7 +241,7 @@ module _ (e : ℕ) (ups rest at above : List ℕ) (step r : ℕ) (h : Climbed e 
         ∙ climb-append e (take step ups) ((e - r) % e ∷ []) [] at h.reached
         ∙ climb-one e ((e - r) % e) at (row, column) some
         ∙ ap Some (sym is);
-    total = omega (arith, ap degree is, degree-grow at (row - 1) (place_of at row adds), h.total);
+    total = omega (arith, ap degree is, degree-grow at (row - 1) (addable_room at row adds).there, h.total);
     held = held;
     few = h.few;
     below = all_left (λ i. i < e) above (r ∷ []) (subst (AllByRecursion (λ i. i < e)) last h.below);
@@ -265,6 +256,7 @@ module _ (e : ℕ) (ups rest at above : List ℕ) (step r : ℕ) (h : Climbed e 
     none = none;
   }
 
+-- After the last residue the way is climbed.
 pub climbed_all : (e : ℕ) (ups rest at : List ℕ) (step : ℕ) → length rest ≡ 0 → Climbed e ups rest at step →
     climb e ups [] ≡ Some at
 climbed_all e ups (r ∷ rest) at step none h = absurd (omega arith)

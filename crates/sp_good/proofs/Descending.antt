@@ -1,30 +1,28 @@
 -- The way down along good nodes, step by step.
 use Rattle.std.proofs.Common.{◌≡◌, ℕ, zero, suc, ◌+◌, ◌-◌, ◌<◌, ◌≤◌, true, List, [], ◌∷◌, ◌++◌, length, refl, sym, ◌∙◌}
-use Rattle.std.proofs.Common.{ap, ap₂, subst, arith, slice_index, Option, Some, None, ◌≢◌, append_assoc, length-append}
+use Rattle.std.proofs.Common.{ap, ap₂, subst, arith, Option, Some, None, ◌≢◌, append_assoc, length-append}
 use Rattle.std.proofs.lemmas.List.{append-nil}
-use Rattle.std.proofs.lemmas.Bool.Decides.{nat_tests}
 use Rattle.std.specs.List.{AllByRecursion}
-use Rattle.std.specs.Option.{IfSome, SomeIff}
+use Rattle.std.specs.Option.{IfSome}
 use Rattle.sp_defs.specs.Partition.{degree, part, is_regular}
 use Rattle.sp_defs.specs.Node.{Node, is_removable}
 use Rattle.sp_defs.specs.Signature.{good, least_good, path_of, path, remove_node, shrink}
 use Rattle.sp_defs.specs.Statements.{IsLabel}
 use Rattle.sp_lists.proofs.Elements.{all_append}
-use Rattle.sp_good_law.proofs.RowRegular.{Corner}
 use Rattle.sp_good_law.proofs.MoveLaw.{move_law}
 use Rattle.sp_partition.specs.Held.{IsHeld}
-use Rattle.sp_partition.proofs.Shrinking.{degree-shrink}
+use Rattle.sp_shapes.proofs.Shrink.{degree-shrink}
+use Rattle.sp_shapes.proofs.Corners.{removable_corner}
 
 -- ---- what a call answered
 
-pub some_value : {X : Type 0} (r : Option X) (P : Type 0) (x v : X) → SomeIff r P v → r ≡ Some x → x ≡ v
-some_value r P x v h is = (subst (λ o. SomeIff o P v) is h).1
-
+-- What a contract says of the value that a call answered.
 pub some_fact : {X : Type 0} (r : Option X) (P : X → Type 0) (x : X) → IfSome r P → r ≡ Some x → P x
 some_fact r P x h is = subst (λ o. IfSome o P) is h
 
 -- ---- the least residue
 
+-- The least residue is the first that has a good node.
 pub least-here : (e i k : ℕ) (parts : List ℕ) (x : Node) → 0 < k → good e i parts ≡ Some x →
     least_good e i k parts ≡ Some (i, x)
 unfolding least_good
@@ -32,6 +30,7 @@ least-here e i zero parts x some is = absurd (omega arith)
 least-here e i (suc k) parts x some is =
     ap (λ o. elim o [ Some x ↦ Some (i, x) | None ↦ least_good e (i + 1) k parts ]) is
 
+-- Or it is later.
 pub least-later : (e i k : ℕ) (parts : List ℕ) → 0 < k → good e i parts ≡ None →
     least_good e i k parts ≡ least_good e (i + 1) (k - 1) parts
 unfolding least_good
@@ -43,6 +42,7 @@ least-later e i (suc k) parts some is =
     back : (k : ℕ) → k ≡ suc k - 1
     back k = omega arith
 
+-- Among none there is none.
 pub least-none : (e i k : ℕ) (parts : List ℕ) → k ≡ 0 → least_good e i k parts ≡ None
 unfolding least_good
 least-none e i zero parts is = refl
@@ -65,6 +65,7 @@ none_among e i (suc k) parts none j x lo hi is =
         not_here : i ≢ j
         not_here same = let found : good e i parts ≡ Some x = ap (λ n. good e n parts) same ∙ is in cc
 
+-- An e-regular partition without a good node is empty.
 pub empty_at_end : (e : ℕ) (parts : List ℕ) → IsLabel e parts → least_good e 0 e parts ≡ None → degree parts ≡ 0
 empty_at_end e [] h none = refl
 empty_at_end e (p ∷ parts) h none =
@@ -72,18 +73,6 @@ empty_at_end e (p ∷ parts) h none =
     absurd (none_among e 0 e (p ∷ parts) none found.0 found.2 (omega arith) (omega (arith, found.1)) found.3)
 
 -- ---- the path
-
-pub corner_of : (parts : List ℕ) (row : ℕ) → is_removable parts (row, part parts row) ≡ true → Corner parts (row - 1)
-corner_of parts row h = subst (λ n. slice_index parts n < slice_index parts (row - 1)) back less
-  where
-    first : 0 < row
-    first = grind (arith, nat_tests)
-
-    less : part parts (row + 1) < part parts row
-    less = grind (arith, nat_tests)
-
-    back : row + 1 - 1 ≡ row - 1 + 1
-    back = omega (arith, first)
 
 path-end : (n e : ℕ) (parts : List ℕ) → least_good e 0 e parts ≡ None → path_of n e parts ≡ []
 unfolding path_of
@@ -112,6 +101,7 @@ pub record Descended (e : ℕ) (mu at residues : List ℕ) : Type 0 where
   pub total : length residues + degree at ≡ degree mu
   pub small : degree mu ≤ 32
 
+-- At the start no node is removed.
 pub descended_start : (e : ℕ) (mu : List ℕ) → 2 ≤ e → IsHeld mu → is_regular e mu ≡ true → Descended e mu mu []
 descended_start e mu he held reg = record {
   label = record { e_least = he; partition = held.partition; regular = reg };
@@ -125,7 +115,7 @@ module _ (e : ℕ) (mu at residues : List ℕ) (h : Descended e mu at residues) 
   module _ (i row column : ℕ) (some : least_good e 0 e at ≡ Some (i, (row, column)))
       (removes : is_removable at (row, part at row) ≡ true) where
     pub one_less : degree (shrink (row - 1) at) + 1 ≡ degree at
-    one_less = degree-shrink (row - 1) at h.label.partition (corner_of at row removes)
+    one_less = degree-shrink (row - 1) at h.label.partition (removable_corner at row removes)
 
     pub descended_more : (at' residues' : List ℕ) → at' ≡ shrink (row - 1) at → residues' ≡ residues ++ (i ∷ []) →
         i < e → IsHeld at' → is_regular e (shrink (row - 1) at) ≡ true → Descended e mu at' residues'

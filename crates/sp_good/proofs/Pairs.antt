@@ -16,6 +16,7 @@ joined-parted (Addable, x) [] h = (refl, tt)
 joined-parted (Addable, x) ((Removable, y) ∷ marks) h = h
 joined-parted (Addable, x) ((Addable, y) ∷ marks) h = (h.0, h)
 
+-- In the reduced list the removable nodes stand before the addable ones.
 pub reduced-parted : (marks : List Mark) → Parted (reduced marks)
 unfolding reduced
 reduced-parted [] = tt
@@ -23,11 +24,13 @@ reduced-parted (m ∷ marks) = joined-parted m (reduced marks) (reduced-parted m
 
 -- ---- one mark more above
 
+-- A removable node in front is left.
 pub removable-removables : (x : Node) (marks : List Mark) →
     removables (reduced ((Removable, x) ∷ marks)) ≡ x ∷ removables (reduced marks)
 unfolding reduced removables
 removable-removables x marks = refl
 
+-- It leaves the addable nodes as they are.
 pub removable-addables : (x : Node) (marks : List Mark) →
     addables (reduced ((Removable, x) ∷ marks)) ≡ addables (reduced marks)
 unfolding reduced addables
@@ -56,6 +59,7 @@ addable-paired x marks = of_joined (reduced marks) (reduced-parted marks)
     of_joined ((Removable, y) ∷ left) h some = refl
     of_joined ((Addable, y) ∷ left) h some = absurd (omega (arith, ap length h.0))
 
+-- An addable node in front is left where no removable one is.
 pub addable-left : (x : Node) (marks : List Mark) → length (removables (reduced marks)) ≡ 0 →
     addables (reduced ((Addable, x) ∷ marks)) ≡ x ∷ addables (reduced marks)
 unfolding reduced removables addables

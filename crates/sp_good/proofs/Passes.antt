@@ -88,6 +88,7 @@ descends_same marks rest found found' unpaired unpaired' seen p q h =
     subst (λ ns. Descends marks rest ns unpaired' seen) (sym p)
     (subst (λ u. Descends marks rest found u seen) (sym q) h)
 
+-- Before the first mark nothing is left.
 pub descends_start : (marks : List Mark) → Descends marks (drop 0 marks) [] 0 0
 descends_start marks = record { is = refl; few = omega arith; few_unpaired = omega arith }
 
@@ -131,6 +132,7 @@ module _ (marks rest below : List Mark) (m : Mark) (found : List Place) (unpaire
     few_unpaired = omega (arith, h.few_unpaired);
   }
 
+-- After the last mark the removable nodes left are found.
 pub descends_all : (marks : List Mark) (found : List Place) (unpaired seen : ℕ) →
     Descends marks [] found unpaired seen → map pair found ≡ lower marks
 unfolding removables reduced
@@ -143,6 +145,7 @@ descends_all marks found unpaired seen h =
 
 -- ---- from bottom to top
 
+-- Below the last mark nothing is left.
 pub ascends_start : (marks : List Mark) → Ascends marks marks None 0
 unfolding removables addables reduced
 ascends_start marks = record { seen = []; whole = append-nil marks; counted = refl; few = omega arith; is = refl }
@@ -189,6 +192,7 @@ module _ (marks rest above : List Mark) (m : Mark) (highest : Option Place) (unp
     is = sym (ap first (upper-left m h.seen at (omega (arith, h.counted))));
   }
 
+-- Above the first mark the highest addable node left is found.
 pub ascends_all : (marks rest : List Mark) (highest : Option Place) (unpaired : ℕ) → length rest ≡ 0 →
     Ascends marks rest highest unpaired → option_map pair highest ≡ first (upper marks)
 ascends_all marks [] highest unpaired none h = h.is ∙ ap (λ xs. first (upper xs)) h.whole

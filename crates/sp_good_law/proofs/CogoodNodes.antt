@@ -1,69 +1,23 @@
 -- Adding the cogood node keeps e-regularity.
 -- It could break regularity only where the e - 1 rows above are all one node longer. But then the first of them can
 -- gain a node of the same residue, and no mark stands between: so the lower node isn't the highest A left.
-use Rattle.std.proofs.Common.{◌≡◌, ◌≢◌, ℕ, suc, ◌+◌, ◌-◌, ◌<◌, ◌≤◌, true, List, [], ◌∷◌, ◌++◌, length, refl, sym}
-use Rattle.std.proofs.Common.{◌∙◌, ap, ap₂, subst, arith, slice_index, ◌⊎◌, inl, inr, Option, Some, None}
+use Rattle.std.proofs.Common.{◌≡◌, ◌≢◌, ℕ, ◌+◌, ◌-◌, ◌<◌, ◌≤◌, true, List, [], ◌∷◌, ◌++◌, length, refl, sym}
+use Rattle.std.proofs.Common.{◌∙◌, ap, ap₂, subst, arith, slice_index, Option, Some, None}
 use Rattle.std.specs.List.{AllByRecursion}
 use Rattle.sp_defs.specs.Partition.{part, IsPartition, is_regular}
 use Rattle.sp_defs.specs.Node.{Node, residue, is_addable}
 use Rattle.sp_defs.specs.Signature.{Addable, Removable, Mark, row_marks, signature, joined, reduced, addables, first}
 use Rattle.sp_defs.specs.Signature.{cogood, add_node, grow}
-use Rattle.sp_lists.proofs.Elements.{le_or_lt}
-use Rattle.sp_shapes.proofs.Order.{all_mono}
 use Rattle.sp_shapes.proofs.Corners.{part_is, row_addable, addable_row}
-use Rattle.sp_shapes.proofs.Grow.{Room, grow_other, grow_same, IsPartition-grow, full_rows}
-use Rattle.sp_shapes.proofs.Regular.{regular_gap, descends}
-use Rattle.sp_shapes.proofs.Residues.{same_column, column_before, full_turn}
-use Rattle.sp_good_law.proofs.RowRegular.{RowRegular, rows_regular}
-use Rattle.sp_good_law.proofs.Marks.{all_reduced, IsMark, row_A, row_none, marks_from, rows_facts, none_of, split_at}
+use Rattle.sp_shapes.proofs.Grow.{Room, IsPartition-grow}
+use Rattle.sp_shapes.proofs.Regular.{regular_gap}
+use Rattle.sp_shapes.proofs.Residues.{full_turn}
+use Rattle.sp_shapes.proofs.RowRegular.{RowRegular, rows_regular}
+use Rattle.sp_good_law.proofs.Kept.{grow_regular}
+use Rattle.sp_good_law.proofs.Marks.{all_reduced, IsMark, row_A, marks_from, rows_facts}
 use Rattle.sp_good_law.proofs.Marks.{signature_rows}
-
--- ---- one node more
-
--- a node more keeps regularity, unless the part e - 1 rows above is just one greater
-pub grow_regular : (e : ℕ) (xs : List ℕ) (k : ℕ) → 2 ≤ e → IsPartition xs → RowRegular e xs → Room xs k →
-    ((i : ℕ) → i + (e - 1) ≡ k → slice_index xs i ≢ slice_index xs k + 1) → RowRegular e (grow k xs)
-grow_regular e xs k he h r room ne i w =
-    settle (le_or_lt i k) (le_or_lt k i) (le_or_lt (i + (e - 1)) k) (le_or_lt k (i + (e - 1)))
-  where
-    far : ℕ
-    far = i + (e - 1)
-
-    other : (j : ℕ) → j ≢ k → slice_index (grow k xs) j ≡ slice_index xs j
-    other j n = grow_other xs k j n
-
-    same : slice_index (grow k xs) k ≡ slice_index xs k + 1
-    same = grow_same xs k room.there
-
-    untouched : i ≢ k → far ≢ k → slice_index (grow k xs) far < slice_index (grow k xs) i
-    untouched ni nf = omega (arith, other far nf, other i ni, r i (omega (arith, other far nf, w)))
-
-    settle : (i ≤ k) ⊎ (k < i) → (k ≤ i) ⊎ (i < k) → (far ≤ k) ⊎ (k < far) → (k ≤ far) ⊎ (far < k) →
-        slice_index (grow k xs) far < slice_index (grow k xs) i
-    settle (inl a) (inl b) p q =
-        let s : i ≡ k = omega arith in
-        let o : slice_index (grow k xs) far ≡ slice_index xs far = other far (λ z. omega arith) in
-        let g : slice_index xs far < slice_index xs i = r i (omega (arith, o, w)) in
-        let t : slice_index (grow k xs) i ≡ slice_index xs i + 1 =
-        subst (λ z. slice_index (grow k xs) z ≡ slice_index xs z + 1) (sym s) same in
-        omega (arith, o, g, t)
-    settle (inr a) b p q = untouched (λ z. omega arith) (λ z. omega arith)
-    settle (inl a) (inr b) (inr p) q = untouched (λ z. omega arith) (λ z. omega arith)
-    settle (inl a) (inr b) (inl p) (inr q) = untouched (λ z. omega arith) (λ z. omega arith)
-    settle (inl a) (inr b) (inl p) (inl q) =
-        let s : far ≡ k = omega arith in
-        let t : slice_index (grow k xs) far ≡ slice_index xs far + 1 =
-        subst (λ z. slice_index (grow k xs) z ≡ slice_index xs z + 1) (sym s) same in
-        let n : slice_index xs i ≢ slice_index xs far + 1 = subst (λ z. slice_index xs i ≢ slice_index xs z + 1) (sym s)
-        (ne i s) in
-        finish t n (le_or_lt (slice_index xs far) 0)
-      where
-        finish : slice_index (grow k xs) far ≡ slice_index xs far + 1 → slice_index xs i ≢ slice_index xs far + 1 →
-            (slice_index xs far ≤ 0) ⊎ (0 < slice_index xs far) →
-            slice_index (grow k xs) far < slice_index (grow k xs) i
-        finish t n (inr v) = omega (arith, t, n, other i (λ z. omega arith), r i v)
-        finish t n (inl z) =
-            omega (arith, t, n, z, other i (λ z. omega arith), full_rows xs i h (omega (arith, room.there, b)))
+use Rattle.sp_lists.proofs.Places.{all_weaken}
+use Rattle.sp_good_law.proofs.Parted.{IsAbout, about_two, descends_to, none_above}
 
 -- ---- two A with nothing to part them: the lower is not the first A left
 
@@ -117,7 +71,7 @@ two_addable y x post ne hp = settle (reduced post) (all_reduced (λ m. m ≢ (Ad
     settle [] h = λ e. ne (out e)
     settle ((Addable, z) ∷ u) h = λ e. ne (out e)
     settle ((Removable, z) ∷ u) h = joined_first x (Addable, y) u apart
-        (λ e. first_fact (λ z. z ≢ x) u x (all_mono (λ m. m ≢ (Addable, x)) (OnA (λ z. z ≢ x)) u on_A h.1) e refl)
+        (λ e. first_fact (λ z. z ≢ x) u x (all_weaken (λ m. m ≢ (Addable, x)) (OnA (λ z. z ≢ x)) u on_A h.1) e refl)
       where
         on_A : (m : Mark) → m ≢ (Addable, x) → OnA (λ z. z ≢ x) m
         on_A (Addable, z) n = λ s. n (ap (λ z. (Addable, z)) s)
@@ -130,6 +84,7 @@ module _ (e : ℕ) (he : 2 ≤ e) (i : ℕ) (parts : List ℕ) (pp : IsPartition
   abbrev InRange : Node → Type 0
   InRange x = IsMark e i parts (Addable, x) × (1 ≤ x.0) × (x.0 < 1 + (length parts + 1))
 
+  -- The cogood node is addable, right of its row, of residue i, and in one of the rows of the signature.
   pub cogood_fact : (x : Node) → cogood e i parts ≡ Some x →
       (is_addable parts x ≡ true) × (residue e x ≡ i) × (x.1 ≡ part parts x.0 + 1) × (1 ≤ x.0) ×
       (x.0 < 1 + (length parts + 1))
@@ -144,47 +99,18 @@ module _ (e : ℕ) (he : 2 ≤ e) (i : ℕ) (parts : List ℕ) (pp : IsPartition
 
       facts : AllByRecursion (OnA InRange) (signature e i parts)
       facts = subst (AllByRecursion (OnA InRange)) (sym (signature_rows e i parts (length parts + 1) refl))
-          (all_mono (λ m. (1 ≤ m.1.0) × (m.1.0 < 1 + (length parts + 1)) × IsMark e i parts m) (OnA InRange)
+          (all_weaken (λ m. (1 ≤ m.1.0) × (m.1.0 < 1 + (length parts + 1)) × IsMark e i parts m) (OnA InRange)
           (marks_from e i parts 1 (length parts + 1)) on_A (rows_facts e i parts 1 (length parts + 1)))
 
   -- where the last row with a mark above has an A too, the lower A isn't the first left
-  preceded : (k gap : ℕ) (y x : Node) → k + 1 + gap < length parts + 1 → y.0 ≡ 1 + k → x.0 ≡ 1 + k + 1 + gap →
-      row_marks e i parts (1 + k) ≡ (Addable, y) ∷ [] → row_marks e i parts (1 + k + 1 + gap) ≡ (Addable, x) ∷ [] →
-      ((r : ℕ) → 1 + k + 1 ≤ r → r < 1 + k + 1 + gap → row_marks e i parts r ≡ []) → cogood e i parts ≢ Some x
-  preceded k gap y x short ry rx fy fx none g =
-      reduced_first x pre ((Addable, y) ∷ (Addable, x) ∷ post) not_before (two_addable y x post apart not_after)
-      (ap (λ s. first (addables (reduced s))) (sym whole) ∙ g)
+  preceded : (y x : Node) → y.0 < x.0 → IsAbout e i parts (Addable, y) (Addable, x) → cogood e i parts ≢ Some x
+  preceded y x lt t g =
+      reduced_first x t.pre ((Addable, y) ∷ (Addable, x) ∷ t.post) (t.before (Addable, x) (omega arith))
+      (two_addable y x t.post apart (t.after (Addable, x) (omega arith)))
+      (ap (λ s. first (addables (reduced s))) (sym t.whole) ∙ g)
     where
-      left : ℕ
-      left = length parts + 1 - (k + 1 + gap + 1)
-
-      pre : List Mark
-      pre = marks_from e i parts 1 k
-
-      post : List Mark
-      post = marks_from e i parts (1 + k + 1 + gap + 1) left
-
-      whole : signature e i parts ≡ pre ++ ((Addable, y) ∷ (Addable, x) ∷ post)
-      whole =
-          signature_rows e i parts (k + suc (gap + suc left)) (omega arith)
-          ∙ split_at e i parts 1 k (gap + suc left)
-          ∙ ap (λ r. pre ++ r) (ap₂ (λ a b. a ++ b) fy
-          (split_at e i parts (1 + k + 1) gap left
-          ∙ ap₂ (λ a b. a ++ b) (none_of e i parts (1 + k + 1) gap none) (ap (λ a. a ++ post) fx)))
-
       apart : y ≢ x
-      apart s = let q : y.0 ≡ x.0 = ap (λ z. z.0) s in omega (arith, q, rx, ry)
-
-      not_before : AllByRecursion (λ m. m ≢ (Addable, x)) pre
-      not_before = all_mono (λ m. (1 ≤ m.1.0) × (m.1.0 < 1 + k) × IsMark e i parts m) (λ m. m ≢ (Addable, x)) pre
-          (λ m f s. let q : m.1.0 ≡ x.0 = ap (λ z. z.1.0) s in omega (arith, q, f.1, rx)) (rows_facts e i parts 1 k)
-
-      not_after : AllByRecursion (λ m. m ≢ (Addable, x)) post
-      not_after = all_mono
-          (λ m. (1 + k + 1 + gap + 1 ≤ m.1.0) × (m.1.0 < 1 + k + 1 + gap + 1 + left) × IsMark e i parts m)
-          (λ m. m ≢ (Addable, x)) post
-          (λ m f s. let q : m.1.0 ≡ x.0 = ap (λ z. z.1.0) s in omega (arith, q, f.0, rx))
-          (rows_facts e i parts (1 + k + 1 + gap + 1) left)
+      apart s = let q : y.0 ≡ x.0 = ap (λ z. z.0) s in omega (arith, q, lt)
 
   -- ---- adding the cogood node keeps regularity
 
@@ -213,9 +139,12 @@ module _ (e : ℕ) (he : 2 ≤ e) (i : ℕ) (parts : List ℕ) (pp : IsPartition
         part_x = part_is parts (1 + k) k (omega arith)
 
         clash : (j : ℕ) → j + (e - 1) ≡ k → slice_index parts j ≢ slice_index parts k + 1
-        clash j at eq = preceded j (e - 2) (1 + j, part parts (1 + j) + 1) (row_x, part parts row_x + 1)
-            (omega (arith, there)) refl refl (row_A e i parts he (1 + j) add_y res_y)
-            (row_A e i parts he row_x add_x res_x) none (g ∙ ap (λ r. Some (r, part parts r + 1)) turn)
+        clash j at eq =
+            preceded (1 + j, part parts (1 + j) + 1) (row_x, part parts row_x + 1) (omega arith)
+            (about_two e i parts j (e - 2) (Addable, (1 + j, part parts (1 + j) + 1))
+            (Addable, (row_x, part parts row_x + 1)) (omega (arith, there)) refl refl
+            (row_A e i parts he (1 + j) add_y res_y) (row_A e i parts he row_x add_x res_x) none)
+            (g ∙ ap (λ r. Some (r, part parts r + 1)) turn)
           where
             row_x : ℕ
             row_x = 1 + j + 1 + (e - 2)
@@ -231,20 +160,13 @@ module _ (e : ℕ) (he : 2 ≤ e) (i : ℕ) (parts : List ℕ) (pp : IsPartition
 
             -- from row j to the row before k all parts are c
             value : (s : ℕ) → j ≤ s → s < k → slice_index parts s ≡ c
-            value s lo hi =
-                omega (arith, upper (down lo), lower (down' hi), eq, (room_of k there add).less (omega arith))
-              where
-                down : j ≤ s → j + (s - j) ≡ s
-                down h = omega arith
-
-                down' : s < k → s + (k - 1 - s) ≡ k - 1
-                down' h = omega arith
-
-                upper : j + (s - j) ≡ s → slice_index parts s ≤ slice_index parts j
-                upper e' = subst (λ n. slice_index parts n ≤ slice_index parts j) e' (descends parts pp j (s - j))
-
-                lower : s + (k - 1 - s) ≡ k - 1 → slice_index parts (k - 1) ≤ slice_index parts s
-                lower e' = subst (λ n. slice_index parts n ≤ slice_index parts s) e' (descends parts pp s (k - 1 - s))
+            value s lo hi = omega (
+              arith,
+              descends_to parts pp j s lo,
+              descends_to parts pp s (k - 1) (omega arith),
+              eq,
+              (room_of k there add).less (omega arith),
+            )
 
             part_y : part parts (1 + j) ≡ c
             part_y = part_is parts (1 + j) j (omega arith) ∙ value j (omega arith) (omega arith)
@@ -278,30 +200,11 @@ module _ (e : ℕ) (he : 2 ≤ e) (i : ℕ) (parts : List ℕ) (pp : IsPartition
                 down = omega arith
 
             none : (r : ℕ) → 1 + j + 1 ≤ r → r < 1 + j + 1 + (e - 2) → row_marks e i parts r ≡ []
-            none r lo hi = row_none e i parts r not_end not_right
-              where
-                d : ℕ
-                d = 1 + k - r
-
-                row_is : r + d ≡ 1 + k
-                row_is = omega arith
-
-                same : part parts r ≡ part parts (1 + k) + 1
-                same =
-                    part_is parts r (r - 1) (omega arith)
-                    ∙ value (r - 1) (omega arith) (omega arith)
-                    ∙ ap (λ n. n + 1) (sym part_x)
-
-                not_end : residue e (r, part parts r) ≢ i
-                not_end q = same_column e r (part parts r) d he (omega arith) (omega arith)
-                    (ap₂ (λ s z. residue e (s, z)) row_is same ∙ res ∙ sym q)
-
-                not_right : residue e (r, part parts r + 1) ≢ i
-                not_right q = column_before e r (part parts r + 1) d he (omega arith) (omega arith)
-                    (ap₂ (λ s z. residue e (s, z)) row_is (minus_one (part parts r) ∙ same) ∙ res ∙ sym q)
-                  where
-                    minus_one : (n : ℕ) → n + 1 - 1 ≡ n
-                    minus_one n = omega arith
+            none r lo hi = none_above e i parts r (1 + k - r) (1 + k) (part parts (1 + k) + 1) he res (omega arith)
+                (omega arith) (omega arith)
+                (part_is parts r (r - 1) (omega arith)
+                ∙ value (r - 1) (omega arith) (omega arith)
+                ∙ ap (λ n. n + 1) (sym part_x))
 
     -- adding the cogood node gives a regular partition
     pub cogood_keeps : (x : Node) → cogood e i parts ≡ Some x →

@@ -12,14 +12,17 @@ use Rattle.sp_defs.specs.Node.{Node, residue, is_removable}
 use Rattle.sp_defs.specs.Signature.{Addable, Removable, Mark, row_marks, signature, joined, reduced, removables, last}
 use Rattle.sp_defs.specs.Signature.{good, remove_node, shrink}
 use Rattle.sp_lists.proofs.Elements.{le_or_lt}
-use Rattle.sp_shapes.proofs.Order.{all_mono}
 use Rattle.sp_shapes.proofs.Diagram.{node_in, IsPartition-tail}
 use Rattle.sp_shapes.proofs.Corners.{part_is, removable_facts, row_removable, removable_row}
-use Rattle.sp_shapes.proofs.Regular.{regular_gap, descends, index_short}
+use Rattle.sp_shapes.proofs.Regular.{regular_gap, index_short}
 use Rattle.sp_shapes.proofs.Residues.{same_column, column_before, full_turn}
-use Rattle.sp_good_law.proofs.RowRegular.{RowRegular, rows_regular, Corner, shrink_regular, IsPartition-shrink}
+use Rattle.sp_shapes.proofs.RowRegular.{RowRegular, rows_regular}
+use Rattle.sp_shapes.proofs.Shrink.{Corner, IsPartition-shrink}
+use Rattle.sp_good_law.proofs.Kept.{shrink_regular}
 use Rattle.sp_good_law.proofs.Marks.{all_reduced, IsMark, row_R, row_none, marks_from, rows_facts, none_of, split_at}
 use Rattle.sp_good_law.proofs.Marks.{signature_rows}
+use Rattle.sp_lists.proofs.Places.{all_weaken}
+use Rattle.sp_good_law.proofs.Parted.{IsAbout, about_two, descends_to, none_above}
 
 -- ---- two R with nothing to part them: the upper is not the last R left
 
@@ -99,6 +102,7 @@ last_fact P ((Removable, y) ∷ ms) x (h, hs) e = settle (removables ms) refl (l
 module _ (e : ℕ) (he : 2 ≤ e) (i : ℕ) (parts : List ℕ) (pp : IsPartition parts) where
   -- ---- the good node, and when a node isn't good
 
+  -- The good node is removable, at the end of its row, and of residue i.
   pub good_fact : (x : Node) → good e i parts ≡ Some x →
       (is_removable parts x ≡ true) × (residue e x ≡ i) × (x.1 ≡ part parts x.0)
   good_fact x g = last_fact (λ x. IsMark e i parts (Removable, x)) (reduced (signature e i parts)) x
@@ -111,45 +115,18 @@ module _ (e : ℕ) (he : 2 ≤ e) (i : ℕ) (parts : List ℕ) (pp : IsPartition
       facts : AllByRecursion (OnR (λ x. IsMark e i parts (Removable, x))) (signature e i parts)
       facts = subst (AllByRecursion (OnR (λ x. IsMark e i parts (Removable, x))))
           (sym (signature_rows e i parts (length parts + 1) refl))
-          (all_mono (λ m. (1 ≤ m.1.0) × (m.1.0 < 1 + (length parts + 1)) × IsMark e i parts m)
+          (all_weaken (λ m. (1 ≤ m.1.0) × (m.1.0 < 1 + (length parts + 1)) × IsMark e i parts m)
           (OnR (λ x. IsMark e i parts (Removable, x))) (marks_from e i parts 1 (length parts + 1))
           (λ m f. on_R m f.2) (rows_facts e i parts 1 (length parts + 1)))
 
   -- where the next row with a mark has an R too, the R of row 1 + k isn't the last R left
-  followed : (k gap : ℕ) (x y : Node) → k + 1 + gap < length parts + 1 → x.0 ≡ 1 + k → y.0 ≢ x.0 →
-      row_marks e i parts (1 + k) ≡ (Removable, x) ∷ [] → row_marks e i parts (1 + k + 1 + gap) ≡ (Removable, y) ∷ [] →
-      ((r : ℕ) → 1 + k + 1 ≤ r → r < 1 + k + 1 + gap → row_marks e i parts r ≡ []) → good e i parts ≢ Some x
-  followed k gap x y short rx ne fx fy none g =
-      two_removable x y pre post not_before (λ s. ne (ap (λ z. z.0) s)) not_after
-      (ap (λ s. last (removables (reduced s))) (sym whole) ∙ g)
+  followed : (x y : Node) → x.0 < y.0 → IsAbout e i parts (Removable, x) (Removable, y) → good e i parts ≢ Some x
+  followed x y lt t g =
+      two_removable x y t.pre t.post (t.before (Removable, x) (omega arith)) apart
+      (t.after (Removable, x) (omega arith)) (ap (λ s. last (removables (reduced s))) (sym t.whole) ∙ g)
     where
-      left : ℕ
-      left = length parts + 1 - (k + 1 + gap + 1)
-
-      pre : List Mark
-      pre = marks_from e i parts 1 k
-
-      post : List Mark
-      post = marks_from e i parts (1 + k + 1 + gap + 1) left
-
-      whole : signature e i parts ≡ pre ++ ((Removable, x) ∷ (Removable, y) ∷ post)
-      whole =
-          signature_rows e i parts (k + suc (gap + suc left)) (omega arith)
-          ∙ split_at e i parts 1 k (gap + suc left)
-          ∙ ap (λ r. pre ++ r) (ap₂ (λ a b. a ++ b) fx
-          (split_at e i parts (1 + k + 1) gap left
-          ∙ ap₂ (λ a b. a ++ b) (none_of e i parts (1 + k + 1) gap none) (ap (λ a. a ++ post) fy)))
-
-      not_before : AllByRecursion (λ m. m ≢ (Removable, x)) pre
-      not_before = all_mono (λ m. (1 ≤ m.1.0) × (m.1.0 < 1 + k) × IsMark e i parts m) (λ m. m ≢ (Removable, x)) pre
-          (λ m f s. let q : m.1.0 ≡ x.0 = ap (λ z. z.1.0) s in omega (arith, q, f.1, rx)) (rows_facts e i parts 1 k)
-
-      not_after : AllByRecursion (λ m. m ≢ (Removable, x)) post
-      not_after = all_mono
-          (λ m. (1 + k + 1 + gap + 1 ≤ m.1.0) × (m.1.0 < 1 + k + 1 + gap + 1 + left) × IsMark e i parts m)
-          (λ m. m ≢ (Removable, x)) post
-          (λ m f s. let q : m.1.0 ≡ x.0 = ap (λ z. z.1.0) s in omega (arith, q, f.0, rx))
-          (rows_facts e i parts (1 + k + 1 + gap + 1) left)
+      apart : y ≢ x
+      apart s = let q : y.0 ≡ x.0 = ap (λ z. z.0) s in omega (arith, q, lt)
 
   -- ---- taking the good node keeps regularity
 
@@ -184,28 +161,22 @@ module _ (e : ℕ) (he : 2 ≤ e) (i : ℕ) (parts : List ℕ) (pp : IsPartition
         part_y = part_is parts row_y (k + (e - 1)) (omega arith)
 
         clash : 0 < slice_index parts (k + (e - 1)) → slice_index parts (k + (e - 1)) + 1 ≡ slice_index parts k → ⊥
-        clash w eq = followed k (e - 2) (1 + k, part parts (1 + k)) (row_y, part parts row_y)
-            (omega (arith, index_short parts (k + (e - 1)) w)) refl (λ z. omega arith)
-            (row_R e i parts he (1 + k) rem res)
-            (row_R e i parts he row_y (row_removable parts row_y (omega arith) past) res_y) none g
+        clash w eq =
+            followed (1 + k, part parts (1 + k)) (row_y, part parts row_y) (omega arith)
+            (about_two e i parts k (e - 2) (Removable, (1 + k, part parts (1 + k)))
+            (Removable, (row_y, part parts row_y))
+            (omega (arith, index_short parts (k + (e - 1)) w)) refl refl (row_R e i parts he (1 + k) rem res)
+            (row_R e i parts he row_y (row_removable parts row_y (omega arith) past) res_y) none) g
           where
             -- between the two rows all parts are c - 1
             value : (s : ℕ) → k + 1 ≤ s → s ≤ k + (e - 1) → slice_index parts s ≡ c - 1
-            value s lo hi = omega (arith, upper (down lo), lower (down' hi), corner, eq)
-              where
-                down : k + 1 ≤ s → k + 1 + (s - (k + 1)) ≡ s
-                down h = omega arith
-
-                down' : s ≤ k + (e - 1) → s + (k + (e - 1) - s) ≡ k + (e - 1)
-                down' h = omega arith
-
-                upper : k + 1 + (s - (k + 1)) ≡ s → slice_index parts s ≤ slice_index parts (k + 1)
-                upper e' = subst (λ n. slice_index parts n ≤ slice_index parts (k + 1)) e'
-                    (descends parts pp (k + 1) (s - (k + 1)))
-
-                lower : s + (k + (e - 1) - s) ≡ k + (e - 1) → slice_index parts (k + (e - 1)) ≤ slice_index parts s
-                lower e' = subst (λ n. slice_index parts n ≤ slice_index parts s) e'
-                    (descends parts pp s (k + (e - 1) - s))
+            value s lo hi = omega (
+              arith,
+              descends_to parts pp (k + 1) s lo,
+              descends_to parts pp s (k + (e - 1)) hi,
+              corner,
+              eq,
+            )
 
             -- and after them the parts are less, since parts is regular
             past : part parts (row_y + 1) < part parts row_y
@@ -349,6 +320,7 @@ good_there e he parts pp a left total rem none = (found.0, ap (λ l. last (remov
         ∙ split_at e i parts 1 a left
         ∙ ap₂ (λ y z. y ++ z) (none_of e i parts 1 a none) (ap (λ r. r ++ rest) (row_R e i parts he (1 + a) rem refl))
 
+-- An e-regular partition that isn't empty has a good node of some residue.
 pub good_exists : (e : ℕ) (parts : List ℕ) → 2 ≤ e → IsPartition parts → is_regular e parts ≡ true →
     0 < slice_index parts 0 → (i : ℕ) × (i < e) × (z : Node) × (good e i parts ≡ Some z)
 good_exists e parts he pp reg w = from (top_run parts pp w)
@@ -383,27 +355,9 @@ good_exists e parts he pp reg w = from (top_run parts pp w)
             (omega (arith, part_is parts (1 + a + 1) (suc a) (omega arith), part_a, lt))
 
         none : (r : ℕ) → 1 ≤ r → r < 1 + a → row_marks e i parts r ≡ []
-        none r lo hi = row_none e i parts r not_end not_right
-          where
-            j : ℕ
-            j = 1 + a - r
-
-            row_is : r + j ≡ 1 + a
-            row_is = omega arith
-
-            same : part parts r ≡ part parts (1 + a)
-            same = part_is parts r (r - 1) (omega arith) ∙ eq (r - 1) (omega arith) ∙ sym part_a
-
-            not_end : residue e (r, part parts r) ≢ i
-            not_end q = same_column e r (part parts r) j he (omega arith) (omega (arith, few))
-                (ap₂ (λ s d. residue e (s, d)) row_is same ∙ sym q)
-
-            not_right : residue e (r, part parts r + 1) ≢ i
-            not_right q = column_before e r (part parts r + 1) j he (omega arith) (omega (arith, few))
-                (ap₂ (λ s d. residue e (s, d)) row_is (minus_one (part parts r) ∙ same) ∙ sym q)
-              where
-                minus_one : (n : ℕ) → n + 1 - 1 ≡ n
-                minus_one n = omega arith
+        none r lo hi = none_above e i parts r (1 + a - r) (1 + a) (part parts (1 + a)) he refl (omega arith)
+            (omega arith) (omega (arith, few))
+            (part_is parts r (r - 1) (omega arith) ∙ eq (r - 1) (omega arith) ∙ sym part_a)
 
         found : (z : Node) × (good e i parts ≡ Some z)
         found = good_there e he parts pp a (length parts + 1 - (a + 1))

@@ -8,12 +8,15 @@ use Rattle.std.specs.List.{AllByRecursion, range_with_len}
 use Rattle.sp_defs.specs.Partition.{part}
 use Rattle.sp_defs.specs.Node.{residue, is_addable, is_removable}
 use Rattle.sp_defs.specs.Signature.{Addable, Removable, Mark, row_marks, signature, joined, reduced}
-use Rattle.sp_lists.proofs.Elements.{and_split, and_join, all_append, all_flat, filter_append, range_all, range_add}
-use Rattle.sp_shapes.proofs.Order.{all_mono}
+use Rattle.sp_lists.proofs.Elements.{all_append, all_flat, range_all, range_add}
 use Rattle.sp_shapes.proofs.Residues.{right_differs}
+use Rattle.std.proofs.lemmas.Bool.{and_parts, and_from, and_right}
+use Rattle.std.proofs.lemmas.List.Elements.{filter-append}
+use Rattle.sp_lists.proofs.Places.{all_weaken}
 
 -- ---- each mark that is left was one of the list
 
+-- What holds of all marks holds of those that are left.
 pub all_reduced : (P : Mark → Type 0) (ms : List Mark) → AllByRecursion P ms → AllByRecursion P (reduced ms)
 unfolding reduced
 all_reduced P [] h = tt
@@ -34,10 +37,6 @@ kept_if t false m = refl
 all_if : (P : Mark → Type 0) (b : Bool) (m : Mark) → (b ≡ true → P m) → AllByRecursion P (cond b (m ∷ []) [])
 all_if P true m h = (h refl, tt)
 all_if P false m h = tt
-
-not_both : (a b : Bool) → b ≡ false → (a && b) ≡ false
-not_both true b h = h
-not_both false b h = refl
 
 -- ---- what a mark says
 
@@ -62,7 +61,7 @@ module _ (e i : ℕ) (parts : List ℕ) where
 
   row_is : (r : ℕ) → row_marks e i parts r ≡ cond (has_R r) (R r ∷ []) [] ++ cond (has_A r) (A r ∷ []) []
   row_is r =
-      filter_append t (cond (is_removable parts (r, part parts r)) (R r ∷ []) [])
+      filter-append t (cond (is_removable parts (r, part parts r)) (R r ∷ []) [])
       (cond (is_addable parts (r, part parts r + 1)) (A r ∷ []) [])
       ∙ ap₂ (λ x y. x ++ y) (kept_if t (is_removable parts (r, part parts r)) (R r))
       (kept_if t (is_addable parts (r, part parts r + 1)) (A r))
@@ -78,12 +77,12 @@ module _ (e i : ℕ) (parts : List ℕ) where
     where
       removable : has_R r ≡ true → (r ≡ r) × IsMark e i parts (R r)
       removable h =
-          let p = and_split (is_removable parts (r, part parts r)) (nat_eq (residue e (r, part parts r)) i) h in
+          let p = and_parts (is_removable parts (r, part parts r)) (nat_eq (residue e (r, part parts r)) i) h in
           (refl, (p.0, eqb-true (residue e (r, part parts r)) i p.1, refl))
 
       addable : has_A r ≡ true → (r ≡ r) × IsMark e i parts (A r)
       addable h =
-          let p = and_split (is_addable parts (r, part parts r + 1)) (nat_eq (residue e (r, part parts r + 1)) i) h in
+          let p = and_parts (is_addable parts (r, part parts r + 1)) (nat_eq (residue e (r, part parts r + 1)) i) h in
           (refl, (p.0, eqb-true (residue e (r, part parts r + 1)) i p.1, refl))
 
   -- ---- rows by residue
@@ -92,27 +91,27 @@ module _ (e i : ℕ) (parts : List ℕ) where
   pub row_R : 2 ≤ e → (r : ℕ) → is_removable parts (r, part parts r) ≡ true → residue e (r, part parts r) ≡ i →
       row_marks e i parts r ≡ (Removable, (r, part parts r)) ∷ []
   row_R he r rem res = row_is r ∙ ap₂ (λ a b. cond a (R r ∷ []) [] ++ cond b (A r ∷ []) [])
-      (and_join (is_removable parts (r, part parts r)) (nat_eq (residue e (r, part parts r)) i) rem
+      (and_from (is_removable parts (r, part parts r)) (nat_eq (residue e (r, part parts r)) i) rem
       (eq-eqb (residue e (r, part parts r)) i res))
-      (not_both (is_addable parts (r, part parts r + 1)) (nat_eq (residue e (r, part parts r + 1)) i)
+      (and_right (is_addable parts (r, part parts r + 1)) (nat_eq (residue e (r, part parts r + 1)) i)
       (ne_eqb (residue e (r, part parts r + 1)) i (λ q. right_differs e r (part parts r) he (q ∙ sym res))))
 
   -- and one with an A too
   pub row_A : 2 ≤ e → (r : ℕ) → is_addable parts (r, part parts r + 1) ≡ true →
       residue e (r, part parts r + 1) ≡ i → row_marks e i parts r ≡ (Addable, (r, part parts r + 1)) ∷ []
   row_A he r add res = row_is r ∙ ap₂ (λ a b. cond a (R r ∷ []) [] ++ cond b (A r ∷ []) [])
-      (not_both (is_removable parts (r, part parts r)) (nat_eq (residue e (r, part parts r)) i)
+      (and_right (is_removable parts (r, part parts r)) (nat_eq (residue e (r, part parts r)) i)
       (ne_eqb (residue e (r, part parts r)) i (λ q. right_differs e r (part parts r) he (res ∙ sym q))))
-      (and_join (is_addable parts (r, part parts r + 1)) (nat_eq (residue e (r, part parts r + 1)) i) add
+      (and_from (is_addable parts (r, part parts r + 1)) (nat_eq (residue e (r, part parts r + 1)) i) add
       (eq-eqb (residue e (r, part parts r + 1)) i res))
 
   -- a row with other residues has nothing
   pub row_none : (r : ℕ) → residue e (r, part parts r) ≢ i → residue e (r, part parts r + 1) ≢ i →
       row_marks e i parts r ≡ []
   row_none r a b = row_is r ∙ ap₂ (λ a b. cond a (R r ∷ []) [] ++ cond b (A r ∷ []) [])
-      (not_both (is_removable parts (r, part parts r)) (nat_eq (residue e (r, part parts r)) i)
+      (and_right (is_removable parts (r, part parts r)) (nat_eq (residue e (r, part parts r)) i)
       (ne_eqb (residue e (r, part parts r)) i a))
-      (not_both (is_addable parts (r, part parts r + 1)) (nat_eq (residue e (r, part parts r + 1)) i)
+      (and_right (is_addable parts (r, part parts r + 1)) (nat_eq (residue e (r, part parts r + 1)) i)
       (ne_eqb (residue e (r, part parts r + 1)) i b))
 
   -- ---- several rows
@@ -121,6 +120,7 @@ module _ (e i : ℕ) (parts : List ℕ) where
   abbrev pub marks_from : ℕ → ℕ → List Mark
   marks_from a n = flat_map (row_marks e i parts) (range_with_len a n)
 
+  -- each is a mark of one of these rows
   pub rows_facts : (a n : ℕ) →
       AllByRecursion (λ m. (a ≤ m.1.0) × (m.1.0 < a + n) × IsMark e i parts m) (marks_from a n)
   rows_facts a n = all_flat Within (row_marks e i parts) (range_with_len a n)
@@ -130,9 +130,10 @@ module _ (e i : ℕ) (parts : List ℕ) where
       Within m = (a ≤ m.1.0) × (m.1.0 < a + n) × IsMark e i parts m
 
       one_row : (r : ℕ) → a ≤ r → r < a + n → AllByRecursion Within (row_marks e i parts r)
-      one_row r lo hi = all_mono (λ m. (m.1.0 ≡ r) × IsMark e i parts m) Within (row_marks e i parts r)
+      one_row r lo hi = all_weaken (λ m. (m.1.0 ≡ r) × IsMark e i parts m) Within (row_marks e i parts r)
           (λ m f. (omega (arith, f.0), omega (arith, f.0), f.1)) (row_facts r)
 
+  -- rows without marks give none
   pub none_of : (a n : ℕ) → ((r : ℕ) → a ≤ r → r < a + n → row_marks e i parts r ≡ []) → marks_from a n ≡ []
   none_of a zero f = refl
   none_of a (suc n) f = ap₂ (λ x y. x ++ y) (f a (omega arith) (omega arith))
@@ -147,6 +148,7 @@ module _ (e i : ℕ) (parts : List ℕ) where
 
   -- ---- the signature
 
+  -- the signature is the marks of all rows that have one
   pub signature_rows : (n : ℕ) → length parts + 1 ≡ n → signature e i parts ≡ marks_from 1 n
   unfolding signature
   signature_rows n h = ap (marks_from 1) h

@@ -10,6 +10,7 @@ not_empty : (mu : List ℕ) → IsPartition mu → mu ≢ [] → 0 < slice_index
 not_empty [] h ne = absurd (ne refl)
 not_empty (p ∷ mu) h ne = IsPartition-head p mu h
 
+-- Good and cogood moves keep e-regularity.
 pub move_law : MoveLaw
 move_law e mu h = record {
   good_keeps = λ i x g.

@@ -1,20 +1,25 @@
 -- Distinct numbers in descending order: they fall, and there are as many, of the same sum.
-use Rattle.std.proofs.Common.{◌≡◌, ◌≢◌, ℕ, zero, suc, ◌+◌, ◌-◌, ◌<◌, ◌≤◌, Bool, true, false, cond, ◌||◌, not, nat_eq}
+use Rattle.std.proofs.Common.{◌≡◌, ◌≢◌, ℕ, zero, suc, ◌+◌, ◌-◌, ◌<◌, ◌≤◌, true, false, cond, ◌||◌, not, nat_eq}
 use Rattle.std.proofs.Common.{List, [], ◌∷◌, ◌++◌, filter, length, refl, sym, ◌∙◌, ap, ap₂, subst, sum_by, sum, arith}
 use Rattle.std.proofs.Common.{◌⊎◌, inl, inr, eq-or-lt_of_le, eq-eqb, length-append, append_assoc, append-nil}
 use Rattle.std.specs.List.{AllByRecursion}
 use Rattle.std.proofs.lemmas.List.Sums.{sum_by-cons}
 use Rattle.std.proofs.lemmas.Bool.Decides.{eqb_tells}
-use Rattle.sp_lists.proofs.Elements.{and_split, all_every}
+use Rattle.sp_lists.proofs.Elements.{all_every}
 use Rattle.sp_lists.proofs.Places.{all_weaken}
 use Rattle.sp_lists.proofs.Counts.{sum-filter}
 use Rattle.sp_abacus_law.specs.Beads.{down, Falls}
 use Rattle.sp_abacus_law.proofs.Falling.{down-falls, falls-filter}
 use Rattle.sp_abacus_law.proofs.Runners.{down-range}
 use Rattle.sp_abacus_law.proofs.Bounds.{filter-same}
-use Rattle.sp_abacus_law.proofs.Sums.{eqb-differ, sum-alike, sum-plus, sum-nought, length-sum}
+use Rattle.std.proofs.Common.{ne_eqb}
+use Rattle.sp_lists.proofs.Sums.{sum-ones}
 use Rattle.sp_module_defs.specs.Jantzen.{occurs, is_distinct, descending}
+use Rattle.std.proofs.lemmas.Bool.{and_parts}
+use Rattle.sp_lists.proofs.Sums.{sum-alike, sum-plus, sum-zeros}
+use Rattle.std.proofs.lemmas.Bool.{not-true}
 
+-- Each number is below n.
 abbrev pub AllBelow : ℕ → List ℕ → Type 0
 AllBelow n xs = AllByRecursion (λ x. x < n) xs
 
@@ -32,8 +37,9 @@ below_sum (x ∷ xs) =
 
 none_above : (xs : List ℕ) (n b : ℕ) → AllBelow n xs → n ≤ b → occurs xs b ≡ false
 none_above [] n b h le = refl
-none_above (x ∷ xs) n b (h, hs) le = ap₂ (λ v w. v || w) (eqb-differ x b (inl (omega arith))) (none_above xs n b hs le)
+none_above (x ∷ xs) n b (h, hs) le = ap₂ (λ v w. v || w) (ne_eqb x b (λ same. omega arith)) (none_above xs n b hs le)
 
+-- The walk may begin at any bound of the numbers.
 pub descending-below : (xs : List ℕ) (n : ℕ) → AllBelow n xs → found_below xs n ≡ descending xs
 unfolding descending found_below
 descending-below xs n h =
@@ -41,6 +47,7 @@ descending-below xs n h =
     (λ b le lt. none_above xs n b h le)
     ∙ ap (filter (occurs xs)) (sym (down-range (sum xs + 1)))
 
+-- The numbers in order fall,
 pub descending-falls : (xs : List ℕ) → Falls (descending xs)
 unfolding descending
 descending-falls xs =
@@ -53,7 +60,7 @@ one_none : (x v n : ℕ) → n ≤ x → sum_by (λ i. cond (nat_eq x i) v 0) (d
 one_none x v zero h = refl
 one_none x v (suc n) h =
     sum_by-cons (λ i. cond (nat_eq x i) v 0) n (down n)
-    ∙ ap₂ (λ b m. cond b v 0 + m) (eqb-differ x n (inr (omega arith))) (one_none x v n (omega arith))
+    ∙ ap₂ (λ b m. cond b v 0 + m) (ne_eqb x n (λ same. omega arith)) (one_none x v n (omega arith))
 
 -- Of the numbers below n one is x.
 one_of : (x v n : ℕ) → x < n → sum_by (λ i. cond (nat_eq x i) v 0) (down n) ≡ v
@@ -73,11 +80,7 @@ one_of x v (suc n) h =
     settle : (x ≡ n) ⊎ (x < n) → (x < n → sum_by (λ i. cond (nat_eq x i) v 0) (down n) ≡ v) →
         cond (nat_eq x n) v 0 + sum_by (λ i. cond (nat_eq x i) v 0) (down n) ≡ v
     settle (inl e) more = ap₂ (λ b m. cond b v 0 + m) (eq-eqb x n e) (one_none x v n (omega arith)) ∙ plain v
-    settle (inr lt) more = ap₂ (λ b m. cond b v 0 + m) (eqb-differ x n (inl lt)) (more lt) ∙ plain' v
-
-not_false : (b : Bool) → not b ≡ true → b ≡ false
-not_false true e = cc
-not_false false e = refl
+    settle (inr lt) more = ap₂ (λ b m. cond b v 0 + m) (ne_eqb x n (λ same. omega arith)) (more lt) ∙ plain' v
 
 -- With one number more, at each place.
 split_first : (f : ℕ → ℕ) (x : ℕ) (xs : List ℕ) (b : ℕ) → occurs xs x ≡ false →
@@ -105,18 +108,19 @@ split_first f x xs b fresh = told (eqb_tells x b)
 
 sum_occurring : (f : ℕ → ℕ) (xs : List ℕ) (n : ℕ) → is_distinct xs ≡ true → AllBelow n xs →
     sum_by (λ b. cond (occurs xs b) (f b) 0) (down n) ≡ sum_by f xs
-sum_occurring f [] n d h = sum-nought (down n)
+sum_occurring f [] n d h = sum-zeros (down n)
 sum_occurring f (x ∷ xs) n d (h, hs) =
-    let apart = and_split (not (occurs xs x)) (is_distinct xs) d in
+    let apart = and_parts (not (occurs xs x)) (is_distinct xs) d in
     sum-alike (λ b. cond (nat_eq x b || occurs xs b) (f b) 0)
     (λ b. cond (nat_eq x b) (f x) 0 + cond (occurs xs b) (f b) 0) (down n)
     (all_every
     (λ b. cond (nat_eq x b || occurs xs b) (f b) 0 ≡ cond (nat_eq x b) (f x) 0 + cond (occurs xs b) (f b) 0) (down n)
-    (λ b. split_first f x xs b (not_false (occurs xs x) apart.0)))
+    (λ b. split_first f x xs b (not-true (occurs xs x) apart.0)))
     ∙ sum-plus (λ b. cond (nat_eq x b) (f x) 0) (λ b. cond (occurs xs b) (f b) 0) (down n)
     ∙ ap₂ (λ m k. m + k) (one_of x (f x) n h) (sum_occurring f xs n apart.1 hs)
     ∙ sym (sum_by-cons f x xs)
 
+-- have the same sums
 pub sum-descending : (f : ℕ → ℕ) (xs : List ℕ) → is_distinct xs ≡ true → sum_by f (descending xs) ≡ sum_by f xs
 unfolding found_below
 sum-descending f xs d =
@@ -124,8 +128,9 @@ sum-descending f xs d =
     ∙ sum-filter (occurs xs) f (down (sum xs + 1))
     ∙ sum_occurring f xs (sum xs + 1) d (below_sum xs)
 
+-- and are as many.
 pub length-descending : (xs : List ℕ) → is_distinct xs ≡ true → length (descending xs) ≡ length xs
-length-descending xs d = length-sum (descending xs) ∙ sum-descending (λ _. 1) xs d ∙ sym (length-sum xs)
+length-descending xs d = sym (sum-ones (descending xs)) ∙ sum-descending (λ _. 1) xs d ∙ sum-ones xs
 
 -- ---- the walk down the numbers
 
@@ -140,6 +145,7 @@ found_no xs n e = ap (λ v. cond v (n ∷ found_below xs n) (found_below xs n)) 
 back : (n : ℕ) → 1 ≤ n → n ≡ suc (n - 1)
 back n k = omega arith
 
+-- Where a number is found there is room.
 pub walk_room : (xs : List ℕ) (n : ℕ) (found : List ℕ) → 1 ≤ n → occurs xs (n - 1) ≡ true → is_distinct xs ≡ true →
     length xs ≤ 64 → found ++ found_below xs n ≡ descending xs → length found < 64
 walk_room xs n found least e d few is =
@@ -152,6 +158,7 @@ walk_room xs n found least e d few is =
         length found < 64
     settle p q r s = omega arith
 
+-- A number that occurs.
 pub walk_yes : (xs : List ℕ) (n : ℕ) (found : List ℕ) → 1 ≤ n → occurs xs (n - 1) ≡ true →
     found ++ found_below xs n ≡ descending xs → (found ++ (n - 1) ∷ []) ++ found_below xs (n - 1) ≡ descending xs
 walk_yes xs n found least e is =
@@ -159,11 +166,13 @@ walk_yes xs n found least e is =
     ∙ ap (λ r. found ++ r) (sym (ap (found_below xs) (back n least) ∙ found_yes xs (n - 1) e))
     ∙ is
 
+-- A number that doesn't.
 pub walk_no : (xs : List ℕ) (n : ℕ) (found : List ℕ) → 1 ≤ n → occurs xs (n - 1) ≡ false →
     found ++ found_below xs n ≡ descending xs → found ++ found_below xs (n - 1) ≡ descending xs
 walk_no xs n found least e is =
     ap (λ r. found ++ r) (sym (ap (found_below xs) (back n least) ∙ found_no xs (n - 1) e)) ∙ is
 
+-- At the end all have been found.
 pub walk_done : (xs : List ℕ) (n : ℕ) (found : List ℕ) → n ≤ 0 → found ++ found_below xs n ≡ descending xs →
     found ≡ descending xs
 unfolding found_below

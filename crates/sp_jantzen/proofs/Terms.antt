@@ -16,13 +16,11 @@ use Rattle.sp_module_defs.specs.Jantzen.{term, terms_of_pair, terms_of_bead, jan
 use Rattle.sp_jantzen.specs.Beads.{AreBeads, IsStep}
 use Rattle.sp_jantzen.proofs.Sorted.{descending-falls}
 use Rattle.sp_jantzen.proofs.Moves.{degree-sorted}
+use Rattle.std.proofs.Math.Bool.{and-false}
 
 -- ---- one term
 
-and_false : (b : Bool) → (b && false) ≡ false
-and_false true = refl
-and_false false = refl
-
+-- A step whose value is 0 has no term,
 pub term-nought : (e : ℕ) (xs : List ℕ) (a b h : ℕ) → step_value e xs a b h ≡ pos 0 → term e xs a b h ≡ []
 unfolding term
 term-nought e xs a b h z =
@@ -30,8 +28,9 @@ term-nought e xs a b h z =
     let one : List (List ℕ × ℤ) =
     (shown (descending after), sorting_sign after *ℤ step_value e xs a b h) ∷ [] in
     ap (λ v. cond (is_distinct after && not (int_eq v (pos 0))) one []) z
-    ∙ ap (λ v. cond v one []) (and_false (is_distinct after))
+    ∙ ap (λ v. cond v one []) (and-false (is_distinct after))
 
+-- nor has one where two beads meet.
 pub term-meets : (e : ℕ) (xs : List ℕ) (a b h : ℕ) → is_distinct (moved xs a b h) ≡ false → term e xs a b h ≡ []
 unfolding term
 term-meets e xs a b h d =
@@ -40,6 +39,7 @@ term-meets e xs a b h d =
     let one : List (List ℕ × ℤ) = (shown (descending after), sorting_sign after *ℤ value) ∷ [] in
     ap (λ v. cond (v && not (int_eq value (pos 0))) one []) d
 
+-- Another step has one.
 pub term-found : (e : ℕ) (xs : List ℕ) (a b h : ℕ) → is_distinct (moved xs a b h) ≡ true →
     step_value e xs a b h ≢ pos 0 → term e xs a b h ≡
     (shown (descending (moved xs a b h)), sorting_sign (moved xs a b h) *ℤ step_value e xs a b h) ∷ []
@@ -97,6 +97,7 @@ term_units e xs a b h beads s =
     tested true false d = tt
     tested false w d = tt
 
+-- Each term has the coefficient 1 or -1, and a partition of the degree.
 pub jantzen_units : (e : ℕ) (p : List ℕ) → 1 ≤ e → IsPartition p → AreBeads (beta e p) →
     AllByRecursion (IsUnit (degree p)) (jantzen_terms e p)
 unfolding jantzen_terms terms_of_bead terms_of_pair

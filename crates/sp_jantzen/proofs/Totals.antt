@@ -9,11 +9,11 @@ use Rattle.std.specs.List.{AllByRecursion}
 use Rattle.std.specs.Ordering.{is_eq}
 use Rattle.std.proofs.lemmas.Int.{ints}
 use Rattle.sp_defs.specs.Partition.{compare, degree, partitions, IsPartitionOf}
-use Rattle.sp_defs.specs.Laurent.{IsLaurent, monomial, one, plus, times, size, int_sum, coefficient, collect, add_term}
+use Rattle.sp_defs.specs.Laurent.{IsLaurent, monomial, one, plus, times, size, int_sum, coefficient, collect}
+use Rattle.sp_defs.specs.Laurent.{add_term}
 use Rattle.sp_defs.specs.Power.{FockVector, fock_vector, unit, vector_of, entries}
 use Rattle.sp_lists.proofs.Greatest.{greatest_within, map_within}
-use Rattle.sp_lists.proofs.Places.{all_at, all_take}
-use Rattle.sp_shapes.proofs.Order.{all_mono}
+use Rattle.sp_lists.proofs.Places.{all_at, all_take, all_weaken}
 use Rattle.sp_shapes.proofs.Listing.{all_partitions}
 use Rattle.sp_algebra.proofs.Coefficients.{at, at-plus, coefficient-put, same_laurent, IsLaurent-collect}
 use Rattle.sp_algebra.proofs.Laws.{plus_nought, IsLaurent-plus, coefficient-plus, times_one, times_nought}
@@ -35,6 +35,7 @@ total-cons kappa c ts lambda =
     tested true rest = refl
     tested false rest = omega (arith, ints)
 
+-- The total with one term more.
 pub total-snoc : (ts : Terms) (kappa : List ℕ) (c : ℤ) (lambda : List ℕ) →
     total_at (ts ++ (kappa, c) ∷ []) lambda ≡ total_at ts lambda +ℤ cond (is_eq (compare kappa lambda)) c (pos 0)
 unfolding total_at int_sum
@@ -99,6 +100,7 @@ constant_more x c false =
     plain : (x : ℤ) → x ≡ x +ℤ pos 0
     plain x = omega (arith, ints)
 
+-- One term more, added to the sum.
 pub term_more : (n : ℕ) (ts : Terms) (kappa : List ℕ) (c : ℤ) → IsPartitionOf n kappa →
     scaled_sum (fock_vector n (constants ts)) (monomial (pos 0) c) (fock_vector n (unit kappa)) ≡
     fock_vector n (constants (ts ++ (kappa, c) ∷ []))
@@ -113,13 +115,14 @@ term_more n ts kappa c h =
     ∙ constant_more (total_at ts lambda) c (is_eq (compare kappa lambda))
     ∙ ap (monomial (pos 0)) (sym (total-snoc ts kappa c lambda))))
 
+-- The sizes at a partition are at most the number of terms.
 pub term_weight : (n : ℕ) (ts : Terms) (kappa : List ℕ) (c : ℤ) → AllByRecursion (λ t. unsigned_abs t.1 ≤ 1) ts →
     unsigned_abs c ≤ 1 →
     scaled_sum_weight (fock_vector n (constants ts)) (monomial (pos 0) c) (fock_vector n (unit kappa)) ≤ length ts + 1
 term_weight n ts kappa c units small =
     greatest_within (length ts + 1) (map size_at (partitions n))
     (map_within size_at (length ts + 1) (partitions n)
-    (all_mono (IsPartitionOf n) (λ lambda. size_at lambda ≤ length ts + 1) (partitions n) here (all_partitions n)))
+    (all_weaken (IsPartitionOf n) (λ lambda. size_at lambda ≤ length ts + 1) (partitions n) here (all_partitions n)))
   where
     size_at : List ℕ → ℕ
     size_at lambda =
@@ -155,6 +158,7 @@ units_before : (ts : Terms) (i : ℕ) → AllByRecursion (λ t. unsigned_abs t.1
 units_before ts i h =
     all_take (λ t. unsigned_abs t.1 ≤ 1) ts i (λ k d lt within. all_at (λ t. unsigned_abs t.1 ≤ 1) ts k d h within)
 
+-- So no sum is past its limit.
 pub weight_within : (n : ℕ) (sum : FockVector) (ts : Terms) (i : ℕ) (kappa : List ℕ) (c : ℤ) →
     sum ≡ fock_vector n (constants (take i ts)) → AllByRecursion (λ t. unsigned_abs t.1 ≤ 1) ts → i < length ts →
     length ts < 2 ^ 64 → unsigned_abs c ≤ 1 → degree kappa ≡ n →
@@ -172,6 +176,7 @@ weight_within n sum ts i kappa c is units lt few small same =
     settle : {x y k i m : ℕ} → k ≤ i → x ≡ y → y ≤ k + 1 → i < m → m < 2 ^ 64 → x < 2 ^ 64
     settle p e q lt few = omega arith
 
+-- The sum of the terms so far, and one more.
 pub sum_more : (n : ℕ) (sum grown : FockVector) (ts : Terms) (i : ℕ) (item : List ℕ × ℤ) →
     sum ≡ fock_vector n (constants (take i ts)) → i < length ts → item ≡ get_or ts i item → IsPartitionOf n item.0 →
     grown ≡ scaled_sum sum (monomial (pos 0) item.1) (fock_vector (degree item.0) (unit item.0)) →

@@ -12,6 +12,7 @@ use Rattle.sp_abacus_law.proofs.Numbers.{beta-falls, shown-beta}
 use Rattle.sp_module_defs.specs.Jantzen.{inversions, sorting_sign}
 use Rattle.sp_jantzen.specs.Beads.{AreBeads}
 
+-- One item more of a list made by parts.
 pub walk_more : {X : Type 0} (f : ℕ → List X) (before items : List X) (a n j : ℕ) → a + n ≡ j →
     items ≡ before ++ flat_map f (range_with_len a n) → items ++ f j ≡ before ++ flat_map f (range_with_len a (n + 1))
 walk_more f before items a n j last is =
@@ -33,6 +34,7 @@ walk_step f before items j least is =
     next : 1 ≤ j → j - 1 + 1 ≡ j + 1 - 1
     next k = omega arith
 
+-- The beta numbers of a partition are beads.
 pub beta_beads : (e : ℕ) (p : List ℕ) → 2 ≤ e → IsHeld p → length (beta e p) ≤ 64 → AreBeads (beta e p)
 beta_beads e p he h few = record {
   falls = beta-falls e p h.partition;
@@ -42,6 +44,7 @@ beta_beads e p he h few = record {
 
 -- ---- the sign
 
+-- An even number of inversions keeps the value,
 pub sign_even : (xs : List ℕ) (v : ℤ) → inversions xs % 2 ≡ 0 → sorting_sign xs *ℤ v ≡ v
 unfolding sorting_sign
 sign_even xs v h = ap (λ b. cond b (pos 1) (negsuc 0) *ℤ v) even ∙ plain v
@@ -52,6 +55,7 @@ sign_even xs v h = ap (λ b. cond b (pos 1) (negsuc 0) *ℤ v) even ∙ plain v
     plain : (v : ℤ) → pos 1 *ℤ v ≡ v
     plain v = omega (arith, ints)
 
+-- and an odd one turns it.
 pub sign_odd : (xs : List ℕ) (v : ℤ) → inversions xs % 2 ≢ 0 → sorting_sign xs *ℤ v ≡ neg_ℤ v
 unfolding sorting_sign
 sign_odd xs v h = ap (λ b. cond b (pos 1) (negsuc 0) *ℤ v) odd ∙ turned v

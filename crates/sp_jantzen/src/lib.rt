@@ -2,7 +2,6 @@
 #![tactic(auto)]
 
 mod numbers;
-mod shown;
 mod sum;
 mod term;
 

@@ -8,8 +8,7 @@ ghost use Rattle.sp_module_defs.specs.Jantzen.{term as term_of, terms_of_pair, t
 ghost use Rattle.sp_jantzen.specs.Beads.{AreBeads, IsStep};
 
 use crate::numbers::{descending, is_distinct, moved, signed};
-use crate::shown::shown;
-use sp_abacus::beta;
+use sp_abacus::{beta, shown};
 use sp_partition::Partition;
 use std::alloc::{AllocError, Global};
 

@@ -2,11 +2,13 @@
 #![tactic(auto)]
 
 mod counting;
+mod law;
 mod step;
 #[cfg(test)]
 mod tests;
 mod vector;
 
 pub use counting::ladders;
+pub use law::ladder_law;
 pub use step::Step;
 pub use vector::ladder_vector;

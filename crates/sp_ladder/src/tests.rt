@@ -1,6 +1,6 @@
 ghost use Rattle.std.specs.Prelude.{◌≤◌, ◌<◌, ◌^◌};
 
-use crate::{Step, ladder_vector, ladders};
+use crate::{Step, ladder_law, ladder_vector, ladders};
 use sp_partition::Partition;
 use sp_power::PowerFault;
 use std::alloc::Global;
@@ -25,6 +25,12 @@ fn text(alloc: Global, e: u8, parts: &[u8], limit: u128) -> Result<Vec<u8>, Fail
         Err(PowerFault::Memory) => out.extend_from_slice(b"memory")?,
     }
     Ok(out)
+}
+
+#[test]
+fn the_law_is_there(_rt: HostRuntime) -> Result<(), Fail> {
+    ladder_law();
+    Ok(())
 }
 
 #[test]

@@ -1,14 +1,14 @@
 -- Which lists of terms the code may hold.
 use Rattle.std.proofs.Common.{◌≡◌, ◌+◌, ◌*◌, ◌⊎◌, inl, inr, ◌∙◌, ap, ◌^◌, ◌<◌, ◌≤◌, [], ◌∷◌, refl, sym}
-use Rattle.std.proofs.Common.{arith, ℤ}
+use Rattle.std.proofs.Common.{arith, ℤ, pos}
 use Rattle.std.specs.Int.RustNames.{unsigned_abs}
-use Rattle.sp_defs.specs.Laurent.{Laurent, IsLaurent, add_term, collect, monomial, plus, times, negate, bar, size}
+use Rattle.sp_defs.specs.Laurent.{Laurent, IsLaurent, add_term, collect, monomial, power, plus, times, negate, bar, size}
 use Rattle.sp_algebra.proofs.Coefficients.{IsLaurent-collect}
 use Rattle.sp_defs.specs.Within.{ProductWithin}
-use Rattle.sp_algebra.proofs.Laws.{IsLaurent-plus, IsLaurent-negate, IsLaurent-bar, plus_nought, nought_times}
+use Rattle.sp_algebra.proofs.Laws.{IsLaurent-plus, IsLaurent-times, IsLaurent-negate, IsLaurent-bar, plus_nought, nought_times}
 use Rattle.sp_algebra.proofs.Laws.{times_nought}
 use Rattle.sp_algebra.proofs.Sizes.{size_negate, size_bar, within_negate, within_bar}
-use Rattle.sp_algebra.proofs.Sizes.{size-monomial, within_monomial, size_plus, size_times, within_plus, within_times}
+use Rattle.sp_algebra.proofs.Sizes.{size-cons, size-monomial, within_monomial, size_plus, size_times, within_plus, within_times}
 use Rattle.sp_laurent.specs.Held.{IsHeld, power_limit}
 
 pub held_nought : IsHeld []
@@ -51,4 +51,11 @@ held_bar p held = record {
   laurent = IsLaurent-bar p;
   small = omega (arith, size_bar p, held.small);
   powers = within_bar power_limit p held.powers;
+}
+
+pub held_shifted : (k : ℤ) (p : Laurent) → IsHeld p → ProductWithin power_limit (power k) p → IsHeld (times (power k) p)
+held_shifted k p held within = record {
+  laurent = IsLaurent-times (power k) p;
+  small = omega (arith, size_times (power k) p, size-cons k (pos 1) [], held.small);
+  powers = within_times power_limit (power k) p within;
 }

@@ -1,6 +1,7 @@
 pub mod Machine
 pub mod Held
 pub mod Merging
+pub mod Placing
 pub mod Multiple
 pub mod Product
 pub mod Texts

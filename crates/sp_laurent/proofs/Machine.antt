@@ -34,3 +34,16 @@ neg_fits w a fits negative_fits = subst (λ x. SFits w x) (sym (negative w a fit
 pub neg_back : (w : Width) (a : ℤ) → SFits w a → SFits w (neg_ℤ a)
     → to_z w (of_z w (pos 0 -ℤ to_z w (of_z w a))) ≡ neg_ℤ a
 neg_back w a fits negative_fits = to_z-of_z (neg_fits w a fits negative_fits) ∙ negative w a fits
+
+-- a number is 0 where its machine form is
+pub back_nought : (z : ℤ) → SFits w128 z → of_z w128 z ≡ 0 → z ≡ pos 0
+back_nought z fits e = sym (to_z-of_z fits) ∙ ap (to_z w128) e
+
+module _ (a b : ℤ) (a_fits : SFits w128 a) (b_fits : SFits w128 b) (fits : SFits w128 (a +ℤ b)) where
+  -- a sum is 0 where its machine form is, and only there
+  pub sum_nought : of_z w128 (to_z w128 (of_z w128 a) +ℤ to_z w128 (of_z w128 b)) ≡ 0 → a +ℤ b ≡ pos 0
+  sum_nought e = sym (add_back w128 a b a_fits b_fits fits) ∙ ap (to_z w128) e
+
+  pub nought_sum : a +ℤ b ≡ pos 0 → of_z w128 (to_z w128 (of_z w128 a) +ℤ to_z w128 (of_z w128 b)) ≡ 0
+  nought_sum e =
+      ap (of_z w128) (ap₂ (λ x y. x +ℤ y) (to_z-of_z a_fits) (to_z-of_z b_fits) ∙ e)

@@ -2,28 +2,33 @@
 #![tactic(auto)]
 
 ghost use Rattle.std.specs.Prelude.{◌≡◌, ℕ, ◌+◌, ◌*◌, ◌^◌, ◌<◌, ◌≤◌, ◌↔◌, unsigned_abs, IfOk, OnOk, OnErr, IsErrOf};
-ghost use Rattle.std.specs.Prelude.{IsTrue, [], ◌++◌, pos, neg_ℤ, map, reverse};
-ghost use Rattle.sp_defs.specs.Laurent.{IsPositive, coefficient, size, monomial, plus, times, negate, bar, lift};
+ghost use Rattle.std.specs.Prelude.{IsTrue, [], List, ℤ, ◌+ℤ◌, ◌-ℤ◌, ◌*ℤ◌, ◌++◌, pos, neg_ℤ, map, reverse};
+ghost use Rattle.sp_defs.specs.Laurent.{IsPositive, IsBarInvariant, coefficient, int_sum, size, monomial, plus, times, negate, bar, lift};
 ghost use Rattle.sp_defs.specs.Laurent.{value_at_one};
 ghost use Rattle.sp_defs.specs.Text.{polynomial_text};
 ghost use Rattle.sp_defs.specs.Within.{PowersWithin, ProductWithin};
 ghost use Rattle.sp_laurent.specs.Held.{IsHeld, power_limit};
 
-use crate::mirror::{lifted, negated, push_mirrored};
-use crate::sums::{is_within, push_term, size_of, split_below, split_first, with_product};
+use crate::mirror::{lifted, negated, push_mirrored, shifted};
+use crate::products::add_product;
+use crate::sums::{is_within, push_term, size_of, split_below, split_first};
 use crate::text::print_terms;
 use std::alloc::{AllocError, Global};
 use std::marker::Model;
 
 mod fault;
+mod law;
 mod mirror;
 mod parsing;
+mod products;
 mod reader;
 mod sums;
 mod text;
 mod values;
 
 pub use fault::{LaurentFault, ParseFault};
+pub use law::values_law;
+pub use sums::without_product;
 pub use text::print_term;
 pub use values::TooLarge;
 
@@ -176,6 +181,12 @@ impl Laurent {
         requires most { limit < 2 ^ 127 }
         ensures ok { IfOk result (λ p. p ≡ lift self.now) }
         ensures too_large { IsErrOf result LaurentFault.TooLarge ↔ (limit < size (lift self.now)) }
+
+        // It is the only polynomial that is invariant and leaves, taken from this one, only positive powers.
+        ensures invariant { IfOk result (λ p. IsBarInvariant p) }
+        ensures rest { IfOk result (λ p. IsPositive (plus self.now (negate p))) }
+        ensures unique { (a : List (ℤ × ℤ)) → IsBarInvariant a → IsPositive (plus self.now (negate a))
+            → IfOk result (λ p. a ≡ p) }
     {
         let (below, constant) = self.lower_half();
         if 2 * size_of(below) + constant.unsigned_abs() > limit {
@@ -203,6 +214,10 @@ impl Laurent {
         ensures err { OnErr result (self.new ≡ self.old) }
         ensures powers { (d : ℕ) → PowersWithin d self.old → ProductWithin d a.now b.now → PowersWithin d self.new }
         ensures held { IsHeld self.new }
+
+        // The coefficient at j is that of before and, for each term c * v^k of `a`, c times that of `b` at j - k.
+        ensures coefficients { (j : ℤ) → OnOk result (coefficient self.new j ≡ coefficient self.old j +ℤ int_sum (
+            map (λ t. t.1 *ℤ coefficient b.now (j -ℤ t.0)) a.now)) }
     {
         if !is_within(limit, self.size(), a.size(), b.size()) {
             return Err(LaurentFault::TooLarge);
@@ -210,8 +225,47 @@ impl Laurent {
         if a.is_zero() || b.is_zero() {
             return Ok(());
         }
-        self.terms = with_product(alloc, &self.terms, &a.terms, &b.terms)?;
+        let mut sum = Vec::from_slice(alloc, &self.terms)?;
+        add_product(&mut sum, &a.terms, &b.terms)?;
+        self.terms = sum;
         Ok(())
+    }
+
+    /// This polynomial and `a * b`. It is refused as too large where the size of this polynomial, and the product of
+    /// the sizes of `a` and `b`, sum up to more than the limit. The sum is made in this polynomial's own memory, which
+    /// grows only where the sum has more terms.
+    pub fn plus_product(
+        self,
+        a: &Laurent,
+        b: &Laurent,
+        limit: u128,
+    ) -> Result<Laurent, LaurentFault>
+        requires least { 1 ≤ limit }
+        requires most { limit < 2 ^ 127 }
+        requires within { ProductWithin power_limit a.now b.now }
+        ensures ok { IfOk result (λ p. p ≡ plus self (times a.now b.now)) }
+        ensures too_large { IsErrOf result LaurentFault.TooLarge ↔ (limit < size self + size a.now * size b.now) }
+        ensures powers { (d : ℕ) → PowersWithin d self → ProductWithin d a.now b.now → IfOk result (λ p.
+            PowersWithin d p) }
+        ensures held { IfOk result (λ p. IsHeld p) }
+    {
+        if !is_within(limit, self.size(), a.size(), b.size()) {
+            return Err(LaurentFault::TooLarge);
+        }
+        let mut terms = self.terms;
+        add_product(&mut terms, &a.terms, &b.terms)?;
+        Ok(Laurent { terms })
+    }
+
+    /// The product of this polynomial and `v^power`, in memory of its own.
+    pub fn shifted(&self, alloc: Global, power: i32) -> Result<Laurent, AllocError>
+        requires { ProductWithin power_limit (monomial power (pos 1)) self.now }
+        ensures ok { IfOk result (λ p. p ≡ times (monomial power (pos 1)) self.now) }
+        ensures held { IfOk result (λ p. IsHeld p) }
+    {
+        Ok(Laurent {
+            terms: shifted(alloc, &self.terms, power)?,
+        })
     }
 
     /// Appends the canonical text, as `v^-1+2+v`.

@@ -1,7 +1,7 @@
-//! Terms with their powers or their coefficients negated.
-ghost use Rattle.std.specs.Prelude.{◌≡◌, ◌++◌, ◌^◌, ◌<◌, map, reverse, pos, neg_ℤ, OnOk, IfOk};
+//! Terms with their powers or their coefficients negated, or with their powers shifted.
+ghost use Rattle.std.specs.Prelude.{◌≡◌, ◌+ℤ◌, ◌++◌, ◌^◌, ◌<◌, map, reverse, pos, neg_ℤ, OnOk, IfOk};
 ghost use Rattle.sp_defs.specs.Laurent.{size, monomial};
-ghost use Rattle.sp_defs.specs.Within.{PowersWithin};
+ghost use Rattle.sp_defs.specs.Within.{PowersWithin, ProductWithin};
 ghost use Rattle.sp_laurent.specs.Held.{power_limit};
 
 use crate::Term;
@@ -29,6 +29,18 @@ pub(crate) fn negated(alloc: Global, terms: &[Term]) -> Result<Vec<Term>, AllocE
         negated.push((*power, -*coefficient))?;
     }
     Ok(negated)
+}
+
+/// The terms with a number added to their powers.
+pub(crate) fn shifted(alloc: Global, terms: &[Term], power: i32) -> Result<Vec<Term>, AllocError>
+    requires { ProductWithin power_limit (monomial power (pos 1)) terms.now }
+    ensures { IfOk result (λ v. v.items ≡ map (λ t. (power +ℤ t.0, t.1)) terms.now) }
+{
+    let mut shifted = Vec::with_capacity(alloc, terms.len())?;
+    for (place, coefficient) in terms {
+        shifted.push((power + *place, *coefficient))?;
+    }
+    Ok(shifted)
 }
 
 /// These terms of negative powers, then `constant` at the power 0, then the terms again with their powers negated.

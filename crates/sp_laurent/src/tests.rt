@@ -25,6 +25,22 @@ fn adds(rt: HostRuntime) -> Result<(), Fail> {
 }
 
 #[test]
+fn adds_in_a_slot(rt: HostRuntime) -> Result<(), Fail> {
+    let alloc = rt.alloc();
+    let v = Laurent::monomial(alloc, 1, 1)?;
+    let minus = Laurent::monomial(alloc, -1, 0)?;
+    let mut slots = vec![in alloc; Laurent::monomial(alloc, 1, 1)?]?;
+    let taken = std::mem::replace(&mut slots[0], Laurent::zero(alloc));
+    slots[0] = taken.plus_product(&v, &v, 2)?;
+    assert_eq!(rt; slots[0].terms(), [(1, 1), (2, 1)].as_slice());
+    let taken = std::mem::replace(&mut slots[0], Laurent::zero(alloc));
+    slots[0] = taken.plus_product(&v, &minus, 3)?;
+    assert_eq!(rt; slots[0].terms(), [(2, 1)].as_slice());
+    assert_eq!(rt; v.shifted(alloc, -3)?.terms(), [(-2, 1)].as_slice());
+    Ok(())
+}
+
+#[test]
 fn turns_and_lifts(rt: HostRuntime) -> Result<(), Fail> {
     let alloc = rt.alloc();
     let one = Laurent::monomial(alloc, 1, 0)?;

@@ -1,5 +1,5 @@
 //! Canonical texts of polynomials.
-ghost use Rattle.std.specs.Prelude.{◌≡◌, ◌==◌, ◌++◌, [], cond, codes, OnOk};
+ghost use Rattle.std.specs.Prelude.{◌≡◌, ◌==◌, ◌++◌, [], cond, codes, OnOk, OnErr};
 ghost use Rattle.std.specs.Fmt.{decimal};
 ghost use Rattle.sp_defs.specs.Text.{is_negative, power_text, term_text, signed_term_text, polynomial_text};
 ghost use Rattle.sp_laurent.specs.Grown.{IsGrown};
@@ -39,9 +39,9 @@ fn print_factor(out: &mut Vec<u8>, number: u128) -> Result<(), AllocError>
     }
 }
 
-/// Appends a term without its sign. Where memory fails, a part of it may be appended.
+// A term without its sign. Where memory fails, a part of it may be appended.
 #[tactic(auto, unfolding(sp_defs::specs::Text::term_text))]
-pub fn print_term(out: &mut Vec<u8>, term: Term) -> Result<(), AllocError>
+fn print_unsigned(out: &mut Vec<u8>, term: Term) -> Result<(), AllocError>
     ensures ok { OnOk result (out.new.items ≡ out.old.items ++ term_text term) }
     ensures grown { IsGrown out.old.items out.new.items }
 {
@@ -53,6 +53,20 @@ pub fn print_term(out: &mut Vec<u8>, term: Term) -> Result<(), AllocError>
     print_power(out, power)
 }
 
+/// Appends a term without its sign. Where memory fails, the text is as before.
+pub fn print_term(out: &mut Vec<u8>, term: Term) -> Result<(), AllocError>
+    ensures ok { OnOk result (out.new.items ≡ out.old.items ++ term_text term) }
+    ensures grown { IsGrown out.old.items out.new.items }
+    ensures err { OnErr result (out.new.items ≡ out.old.items) }
+{
+    let before = out.len();
+    let printed = print_unsigned(out, term);
+    if printed.is_err() {
+        out.truncate(before);
+    }
+    printed
+}
+
 // The first term, with its sign where it is negative.
 fn print_first(out: &mut Vec<u8>, term: Term) -> Result<(), AllocError>
     ensures ok { OnOk result (
@@ -62,7 +76,7 @@ fn print_first(out: &mut Vec<u8>, term: Term) -> Result<(), AllocError>
     if term.1 < 0 {
         out.push(b'-')?;
     }
-    print_term(out, term)
+    print_unsigned(out, term)
 }
 
 // A later term, with its sign.
@@ -71,7 +85,7 @@ fn print_later(out: &mut Vec<u8>, term: Term) -> Result<(), AllocError>
     ensures grown { IsGrown out.old.items out.new.items }
 {
     out.push(if term.1 < 0 { b'-' } else { b'+' })?;
-    print_term(out, term)
+    print_unsigned(out, term)
 }
 
 /// Appends the text of the polynomial with these terms. Where memory fails, a part of it may be appended.

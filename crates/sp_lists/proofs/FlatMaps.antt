@@ -1,10 +1,11 @@
 -- Two filters as a `flat_map`, and a `flat_map` over one number more.
-use Rattle.std.proofs.Common.{◌≡◌, ℕ, ◌+◌, suc, zero, Bool, true, false, cond, List, [], ◌∷◌, ◌++◌, map, filter}
-use Rattle.std.proofs.Common.{flat_map, refl, sym, ◌∙◌, ap, arith, add-one, append-nil}
+use Rattle.std.proofs.Common.{◌≡◌, ℕ, ◌+◌, Bool, true, false, cond, List, [], ◌∷◌, ◌++◌, map, filter}
+use Rattle.std.proofs.Common.{flat_map, refl, sym, ◌∙◌, ap, add-one, append-nil}
 use Rattle.std.specs.List.{range_with_len}
 use Rattle.std.proofs.lemmas.List.Concat.{flat_map-append, flat_map-cons}
+use Rattle.sp_lists.proofs.Elements.{range_snoc}
 
--- The elements that pass both tests, one after the other.
+-- The images that pass two tests, one after the other.
 pub filter_twice-map : {X Y : Type 0} (s t : Y → Bool) (f : X → Y) (xs : List X) →
     filter s (filter t (map f xs)) ≡ flat_map (λ x. filter s (cond (t (f x)) (f x ∷ []) [])) xs
 filter_twice-map s t f [] = refl
@@ -22,16 +23,10 @@ filter_twice-map s t f (x ∷ xs) =
         before true = refl
         before false = refl
 
-pub range-more : (a n : ℕ) → range_with_len a (n + 1) ≡ range_with_len a n ++ (a + n) ∷ []
-range-more a n = ap (range_with_len a) (add-one n) ∙ at_suc a n
-  where
-    at_suc : (a n : ℕ) → range_with_len a (suc n) ≡ range_with_len a n ++ (a + n) ∷ []
-    at_suc a zero = ap (λ k. k ∷ []) (omega arith)
-    at_suc a (suc n) = ap (λ ks. a ∷ ks) (at_suc (a + 1) n ∙ ap (λ k. range_with_len (a + 1) n ++ k ∷ []) (omega arith))
-
+-- One number more: what it gives comes at the end.
 pub flat_map-range_more : {Y : Type 0} (f : ℕ → List Y) (a n j : ℕ) → a + n ≡ j →
     flat_map f (range_with_len a (n + 1)) ≡ flat_map f (range_with_len a n) ++ f j
 flat_map-range_more f a n j last =
-    ap (flat_map f) (range-more a n)
+    ap (flat_map f) (ap (range_with_len a) (add-one n) ∙ range_snoc a n)
     ∙ flat_map-append f (range_with_len a n) ((a + n) ∷ [])
     ∙ ap (λ ys. flat_map f (range_with_len a n) ++ ys) (flat_map-cons f (a + n) [] ∙ append-nil (f (a + n)) ∙ ap f last)

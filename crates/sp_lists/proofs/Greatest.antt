@@ -19,14 +19,17 @@ within_fold b start (x ∷ xs) h = (omega (arith, h, fold_from (max start x) xs)
 pub greatest_within : (b : ℕ) (xs : List ℕ) → AllByRecursion (λ x. x ≤ b) xs → fold max 0 xs ≤ b
 greatest_within b xs h = fold_within b 0 xs (omega arith) h
 
+-- each is within a bound that the greatest keeps
 pub within_greatest : (b : ℕ) (xs : List ℕ) → fold max 0 xs ≤ b → AllByRecursion (λ x. x ≤ b) xs
 within_greatest b xs h = within_fold b 0 xs h
 
+-- the images are within a bound where the values are, and back
 pub map_within : {X : Type 0} (f : X → ℕ) (b : ℕ) (xs : List X) → AllByRecursion (λ x. f x ≤ b) xs →
     AllByRecursion (λ n. n ≤ b) (map f xs)
 map_within f b [] h = tt
 map_within f b (x ∷ xs) (h, hs) = (h, map_within f b xs hs)
 
+-- the values are within a bound that the images keep
 pub within_map : {X : Type 0} (f : X → ℕ) (b : ℕ) (xs : List X) → AllByRecursion (λ n. n ≤ b) (map f xs) →
     AllByRecursion (λ x. f x ≤ b) xs
 within_map f b [] h = tt

@@ -1,5 +1,9 @@
 pub mod Elements
+pub mod Places
+pub mod Occurrence
+pub mod Maps
+pub mod FlatMaps
+pub mod Sums
 pub mod Counts
 pub mod Greatest
-pub mod Places
-pub mod FlatMaps
+pub mod Comparing

@@ -24,11 +24,13 @@ unfolding jantzen_sum jantzen_terms terms_of_bead terms_of_pair term inversions 
     partitions partitions_within int_sum
 jantzen_of_3_1_1 = refl
 
+-- the Jantzen sums of 4
 pub jantzen_of_4 : jantzen_entries 2 (4 ∷ []) ≡ []
 unfolding jantzen_sum jantzen_terms terms_of_bead terms_of_pair term inversions sorting_sign descending total_at
     partitions partitions_within int_sum
 jantzen_of_4 = refl
 
+-- and of 3,1
 pub jantzen_of_3_1 : jantzen_entries 2 (3 ∷ 1 ∷ []) ≡ (4 ∷ [], one) ∷ []
 unfolding jantzen_sum jantzen_terms terms_of_bead terms_of_pair term inversions sorting_sign descending total_at
     partitions partitions_within int_sum
@@ -72,6 +74,7 @@ unfolding jantzen_sum jantzen_terms terms_of_bead terms_of_pair term inversions 
     partitions partitions_within int_sum regulars jantzen_value matrix_4 vector_of
 agreement_4 = refl
 
+-- the weights of the comparison in degree 4
 pub agreement_weights_4 : map (agreement_weight 2 matrix_4) (partitions 4) ≡ 2 ∷ 2 ∷ 2 ∷ 1 ∷ 0 ∷ []
 unfolding jantzen_sum jantzen_terms terms_of_bead terms_of_pair term inversions sorting_sign descending total_at
     partitions partitions_within int_sum regulars jantzen_size matrix_4 vector_of
@@ -79,15 +82,18 @@ agreement_weights_4 = refl
 
 -- ---- dimensions
 
+-- the dimensions of the Specht modules
 pub dims_of_specht_modules : map specht_dim (partitions 4) ≡ 1 ∷ 3 ∷ 2 ∷ 3 ∷ 1 ∷ []
 unfolding specht_dim factorial product nodes_from partitions partitions_within
 dims_of_specht_modules = refl
 
+-- what the dimensions of two simple modules make of them
 pub dims_4 : map (composed_dim matrix_4 ((4 ∷ [], pos 1) ∷ (3 ∷ 1 ∷ [], pos 2) ∷ [])) (partitions 4) ≡
     pos 1 ∷ pos 3 ∷ pos 2 ∷ pos 3 ∷ pos 1 ∷ []
 unfolding composed_dim int_sum matrix_4 vector_of partitions partitions_within
 dims_4 = refl
 
+-- and the weight of the equation of 3,1
 pub dim_weight_4 : dim_weight matrix_4 ((4 ∷ [], pos 1) ∷ (3 ∷ 1 ∷ [], pos 2) ∷ []) (3 ∷ 1 ∷ []) ≡ 4
 unfolding dim_weight specht_dim factorial product nodes_from matrix_4 vector_of int_sum
 dim_weight_4 = refl

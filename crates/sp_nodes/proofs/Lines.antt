@@ -39,6 +39,7 @@ later_cells number r a (suc n) late text =
     spaced : codes " " ++ here ≡ cell_text number r a
     spaced = ap (λ b. cond b (codes " ") [] ++ here) (sym later)
 
+-- A line is its cells, and a newline.
 pub line-cells : (number : ℕ × ℕ → ℕ) (r n : ℕ)
     → line_text number r n ≡ flat_map (cell_text number r) (from_one_to n) ++ newline
 line-cells number r zero = refl
@@ -49,9 +50,11 @@ line-cells number r (suc n) =
 
 -- ---- what is written so far
 
+-- What the places before this one give stands behind the old text.
 pub record Written (old : List ℕ) (gives : ℕ → List ℕ) (now : List ℕ) (place : ℕ) : Type 0 where
   pub text : now ≡ old ++ flat_map gives (range_with_len 1 (place - 1))
 
+-- One place more is written.
 pub written_more : (old : List ℕ) (gives : ℕ → List ℕ) (now more : List ℕ) (place : ℕ) (piece : List ℕ) → 1 ≤ place →
     more ≡ now ++ piece → piece ≡ gives place → Written old gives now place → Written old gives more (place + 1)
 written_more old gives now more place piece least appended is h = record {
@@ -69,16 +72,19 @@ written_kept old gives now broken place h kept =
     let written = flat_map gives (range_with_len 1 (place - 1)) in
     kept_on old now broken (ap (take (length old)) h.text ∙ kept_append old written) kept
 
+-- The text of a partition that has rows is its lines.
 pub grid-lines : (number : ℕ × ℕ → ℕ) (parts : List ℕ) → 0 < length parts →
     grid_text number parts ≡ flat_map (row_line number parts) (from_one_to (length parts))
 grid-lines number [] some = absurd (omega arith)
 grid-lines number (p ∷ parts) some = refl
 
+-- After the last place all is written.
 pub written_all : (old : List ℕ) (gives : ℕ → List ℕ) (now : List ℕ) (place n : ℕ) → place ≡ n + 1 →
     Written old gives now place → now ≡ old ++ flat_map gives (from_one_to n)
 written_all old gives now place n last h =
     h.text ∙ ap (λ k. old ++ flat_map gives (range_with_len 1 k)) (omega arith)
 
+-- With its newline it is the line.
 pub written_line : (old : List ℕ) (number : ℕ × ℕ → ℕ) (now : List ℕ) (r place n : ℕ) → place ≡ n + 1 →
     Written old (cell_text number r) now place → now ++ newline ≡ old ++ line_text number r n
 written_line old number now r place n last h =

@@ -21,9 +21,11 @@ pub record Pushed (old found : List Node) (row column : ℕ) : Type 0 where
   pub len : length found ≡ length old + (column - 1)
   pub places : All IsPlace old → All IsPlace found
 
+-- Before the first column nothing is pushed.
 pub pushed_none : (old : List Node) (row : ℕ) → Pushed old old row 1
 pushed_none old row = record { nodes = sym (append-nil (map pair old)); len = omega arith; places = λ h. h }
 
+-- One node more is pushed.
 pub pushed_more : (old found more : List Node) (row column : ℕ) → IsPlace (record { row = row; column = column }) →
     more ≡ found ++ record { row = row; column = column } ∷ [] → Pushed old found row column →
     Pushed old more row (column + 1)
@@ -47,11 +49,13 @@ pub record Listed (parts : List ℕ) (found : List Node) (row : ℕ) : Type 0 wh
   pub len : length found ≡ sum (take (row - 1) parts)
   pub places : All IsPlace found
 
+-- There is room for one row more.
 pub listed_room : (parts : List ℕ) (found : List Node) (row : ℕ) → IsHeld parts → 1 ≤ row → row ≤ length parts →
     Listed parts found row → length found + part parts row ≤ 32
 listed_room parts found row held least most h =
     omega (arith, h.len, sum_by_more_le (λ x. x) parts (row - 1) 0 (omega arith), held.small)
 
+-- One row more is listed.
 pub listed_row : (parts : List ℕ) (found more : List Node) (row n : ℕ) → 1 ≤ row → row ≤ length parts →
     n ≡ part parts row → map pair more ≡ map pair found ++ row_nodes row n → length more ≡ length found + n →
     (All IsPlace found → All IsPlace more) → Listed parts found row → Listed parts more (row + 1)
@@ -67,6 +71,7 @@ listed_row parts found more row n least most is filled len places h = record {
   places = places h.places;
 }
 
+-- After the last row all nodes are listed.
 pub listed_all : (parts : List ℕ) (found : List Node) (row : ℕ) → row ≡ length parts + 1 → Listed parts found row →
     map pair found ≡ nodes parts
 listed_all parts found row last h =

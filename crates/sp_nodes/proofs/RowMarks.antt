@@ -13,12 +13,14 @@ use Rattle.sp_nodes.specs.Rows.{gained, lost}
 
 -- ---- all rows
 
+-- What all rows gain are the addable nodes of the residue.
 pub gained_all : (e i : ℕ) (parts : List ℕ) →
     flat_map (gained e i parts) (from_one_to (length parts + 1)) ≡ of_residue e i (addable parts)
 gained_all e i parts =
     sym (filter_twice-map (λ x. nat_eq (residue e x) i) (is_addable parts) (λ r. (r, part parts r + 1))
     (from_one_to (length parts + 1)))
 
+-- What all rows lose are the removable ones.
 pub lost_all : (e i : ℕ) (parts : List ℕ) →
     flat_map (lost e i parts) (from_one_to (length parts)) ≡ of_residue e i (removable parts)
 lost_all e i parts =
@@ -26,6 +28,7 @@ lost_all e i parts =
     ∙ filter_twice-map (λ x. nat_eq (residue e x) i) (is_removable parts) (λ r. (r, part parts r))
     (from_one_to (length parts)))
 
+-- The marks of all rows are the signature.
 pub marks_all : (e i : ℕ) (parts : List ℕ) →
     flat_map (row_marks e i parts) (from_one_to (length parts + 1)) ≡ signature e i parts
 unfolding signature
@@ -60,6 +63,7 @@ last_and_next : (e i : ℕ) (parts : List ℕ) (r : ℕ) → 2 ≤ e → nat_eq 
     nat_eq (residue e (r, part parts r + 1)) i ≡ false
 last_and_next e i parts r least same = let other = right_differs e r (part parts r) least in grind (arith, nat_tests)
 
+-- A row that loses a node of the residue has that mark alone.
 pub lost_mark : (e i : ℕ) (parts : List ℕ) (r : ℕ) (x : Node) → 2 ≤ e → x ∷ [] ≡ lost e i parts r →
     row_marks e i parts r ≡ (Removable, x) ∷ []
 lost_mark e i parts r x least is =

@@ -36,6 +36,7 @@ one_more e seen node i =
     ∙ sum_by-append (λ x. cond (nat_eq (residue e x) i) 1 0) (map pair seen) (pair node ∷ [])
     ∙ ap (λ n. with_residue e (map pair seen) i + n) (zero-add (cond (nat_eq (residue e (pair node)) i) 1 0))
 
+-- One node more is counted at its residue.
 pub tallied_more : (e r : ℕ) (counts : List ℕ) (seen : List Node) (node : Node) → r < 64 → r ≡ residue e (pair node) →
     Tallied e counts seen → Tallied e (slice_set counts r (slice_index counts r + 1)) (seen ++ node ∷ [])
 tallied_more e r counts seen node lt is h = record {

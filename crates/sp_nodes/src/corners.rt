@@ -1,13 +1,13 @@
-ghost use Rattle.std.specs.Prelude.{◌≡◌, ◌<◌, ◌≤◌, ◌++◌, map, option_to_list};
+ghost use Rattle.std.specs.Prelude.{◌≡◌, ◌<◌, ◌≤◌, [], ◌∷◌, ◌++◌, map, option_to_list};
 ghost use Rattle.arrayvec.specs.ArrayVec.{array_vec_len};
 ghost use Rattle.sp_defs.specs.Node.{addable as addable_of, removable as removable_of};
 ghost use Rattle.sp_defs.specs.Signature.{signature, row_marks};
-ghost use Rattle.sp_nodes.specs.Nodes.{pair, of_residue};
+ghost use Rattle.sp_nodes.specs.Nodes.{pair, of_residue, IsPlace};
 ghost use Rattle.sp_nodes.specs.Marks.{mark_of};
 ghost use Rattle.sp_nodes.specs.Rows.{gained, lost};
 
 use crate::node::{Node, residue};
-use crate::rows::{can_gain, can_lose, row_count, row_length};
+use crate::rows::row_count;
 use arrayvec::ArrayVec;
 use sp_partition::Partition;
 
@@ -84,15 +84,8 @@ fn addable_in_row(e: u8, i: u8, p: &Partition, row: u8) -> Option<Node>
     requires row_most { row ≤ 33 }
     ensures { map pair (option_to_list result) ≡ gained e i p.now row }
 {
-    if !can_gain(p, row) {
-        return None;
-    }
-    let node = Node {
-        row,
-        column: row_length(p, row) + 1,
-    };
-    if residue(e, node) == i {
-        Some(node)
+    if p.can_grow(row) {
+        if_residue(e, i, row, p.part(row) + 1)
     } else {
         None
     }
@@ -105,13 +98,21 @@ fn removable_in_row(e: u8, i: u8, p: &Partition, row: u8) -> Option<Node>
     requires row_most { row ≤ 33 }
     ensures { map pair (option_to_list result) ≡ lost e i p.now row }
 {
-    if !can_lose(p, row) {
-        return None;
+    if p.can_shrink(row) {
+        if_residue(e, i, row, p.part(row))
+    } else {
+        None
     }
-    let node = Node {
-        row,
-        column: row_length(p, row),
-    };
+}
+
+// The node there, where its residue is `i`.
+fn if_residue(e: u8, i: u8, row: u8, column: u8) -> Option<Node>
+    requires e_least { 2 ≤ e }
+    requires e_most { e ≤ 64 }
+    requires place { IsPlace (record { row = row; column = column }) }
+    ensures { map pair (option_to_list result) ≡ of_residue e i ((row, column) ∷ []) }
+{
+    let node = Node { row, column };
     if residue(e, node) == i {
         Some(node)
     } else {

@@ -8,7 +8,7 @@ ghost use Rattle.sp_nodes.specs.Nodes.{pair, IsPlace};
 ghost use Rattle.sp_nodes.specs.Rows.{row_nodes};
 
 use crate::node::{Node, residue};
-use crate::rows::{row_count, row_length};
+use crate::rows::row_count;
 use arrayvec::ArrayVec;
 use sp_partition::Partition;
 
@@ -19,7 +19,7 @@ pub fn nodes(p: &Partition) -> ArrayVec<Node, 32>
 {
     let mut found = ArrayVec::new();
     for row in 1..row_count(p) + 1 {
-        push_row(&mut found, row, row_length(p, row));
+        push_row(&mut found, row, p.part(row));
     }
     found
 }
@@ -69,7 +69,7 @@ pub fn hook(p: &Partition, node: Node) -> u8
     requires { IsTrue (in_diagram p.now (pair node)) }
     ensures { result ≡ hook_of p.now (pair node) }
 {
-    let right = row_length(p, node.row) - node.column;
+    let right = p.part(node.row) - node.column;
     let below = column_length(p, node.column) - node.row;
     right + below + 1
 }

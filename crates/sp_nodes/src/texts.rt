@@ -9,7 +9,7 @@ ghost use Rattle.sp_nodes.specs.Filling.{number_at as number_of, IsFilling};
 
 use crate::diagram::hook;
 use crate::node::{Node, residue};
-use crate::rows::{row_count, row_length};
+use crate::rows::row_count;
 use itoa::Buffer;
 use sp_partition::Partition;
 use std::alloc::{AllocError, Global};
@@ -81,7 +81,7 @@ fn put_line(out: &mut Vec<u8>, filling: Filling, p: &Partition, row: u8) -> Resu
     ensures text { OnOk result (out.new.items ≡ out.old.items ++ row_line (number_of filling p.now) p.now row) }
     ensures kept { OnErr result (take (length out.old.items) out.new.items ≡ out.old.items) }
 {
-    for column in 1..row_length(p, row) + 1 {
+    for column in 1..p.part(row) + 1 {
         let number = number_at(filling, p, Node { row, column });
         put_after(out, column > 1, number)?;
     }

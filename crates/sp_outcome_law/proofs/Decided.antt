@@ -9,22 +9,25 @@ use Rattle.sp_defs.specs.Partition.{degree, partitions, IsPartitionOf}
 use Rattle.sp_defs.specs.Laurent.{Laurent, size}
 use Rattle.sp_defs.specs.Power.{greatest}
 use Rattle.sp_defs.specs.Ladder.{ladder_vector, ladder_weight, steps}
-use Rattle.sp_defs.specs.Row.{Factors, earlier, regular_row, shares, needed, weight, stray, outcome, Outcome, TooLarge}
+use Rattle.sp_defs.specs.Row.{Factors, earlier, regular_row, shares, needed, weight, stray, outcome, Outcome}
+use Rattle.sp_defs.specs.Row.{TooLarge}
 use Rattle.sp_defs.specs.Row.{Stray, Row}
 use Rattle.sp_defs.specs.Statements.{IsLabel}
-use Rattle.sp_lists.proofs.Elements.{or_split}
-use Rattle.sp_shapes.proofs.Listing.{Occurs, at_occurs, occurs_filter, each_partition, all_partitions}
+use Rattle.sp_shapes.proofs.Listing.{each_partition, all_partitions}
 use Rattle.sp_ladder_law.proofs.Weights.{partial_whole, within_weight, degree_after_all}
 use Rattle.sp_outcome_law.specs.Asking.{is_nonzero, share_at, given, next_rank, total, is_too_large, given_past}
 use Rattle.sp_outcome_law.specs.Asking.{total_past, share_past, is_past}
-use Rattle.sp_outcome_law.proofs.Listed.{any_alike, any-map, true_or, or_true}
 use Rattle.sp_outcome_law.proofs.Exceeding.{past_max, greatest_past}
-use Rattle.sp_outcome_law.proofs.Listed.{some_passes, passing, from_filter, occurs_drop, sum_drop, none_passes, or_fits}
+use Rattle.sp_outcome_law.proofs.Listed.{sum_drop}
 use Rattle.sp_outcome_law.proofs.Reached.{Passed, all_passed, given_none, step, next_zero}
 use Rattle.sp_outcome_law.proofs.Ranks.{length_shares}
 use Rattle.sp_outcome_law.proofs.Left.{sum_nonzero, total_start, total_step}
 use Rattle.sp_outcome_law.proofs.Next.{IsNext, is_next}
 use Rattle.sp_outcome_law.proofs.Splitting.{needed_split}
+use Rattle.std.proofs.lemmas.Bool.{or_cases, or_left, or_right, or_parts}
+use Rattle.sp_lists.proofs.Occurrence.{Occurs, at_occurs, occurs_filter, some_passes, passing, from_filter}
+use Rattle.sp_lists.proofs.Occurrence.{occurs_drop, none_passes}
+use Rattle.sp_lists.proofs.Maps.{any-alike, any-map}
 
 -- ---- too large, by the weights
 
@@ -43,6 +46,11 @@ made_fits : (o : Option (List ℕ)) → is_too_large (made o) ≡ false
 made_fits None = refl
 made_fits (Some lambda) = refl
 
+-- the outcome that is no vector is too large
+pub large_outcome : (o : Outcome) → o ≡ TooLarge → is_too_large o ≡ true
+large_outcome o h = ap is_too_large h
+
+-- by the weights
 pub too_large_by : (e limit : ℕ) (mu : List ℕ) →
     is_too_large (outcome e limit mu) ≡ list_any (λ kappa. nat_lt limit (weight e kappa)) (needed e mu)
 too_large_by e limit mu =
@@ -54,7 +62,7 @@ too_large_by e limit mu =
     tested true o h = refl
     tested false o h = h
 
--- the outcome where it isn't too large
+-- where it isn't too large there is a row, or a stray partition
 pub row_of : (e limit : ℕ) (mu : List ℕ) → is_too_large (outcome e limit mu) ≡ false → stray e mu ≡ None →
     outcome e limit mu ≡ Row
 row_of e limit mu h s =
@@ -62,6 +70,7 @@ row_of e limit mu h s =
     ∙ ap (λ b. cond b TooLarge (made (stray e mu))) (sym (too_large_by e limit mu) ∙ h)
     ∙ ap made s
 
+-- with a stray partition it is that
 pub stray_of : (e limit : ℕ) (mu lambda : List ℕ) → is_too_large (outcome e limit mu) ≡ false →
     stray e mu ≡ Some lambda → outcome e limit mu ≡ Stray lambda
 stray_of e limit mu lambda h s =
@@ -69,6 +78,7 @@ stray_of e limit mu lambda h s =
     ∙ ap (λ b. cond b TooLarge (made (stray e mu))) (sym (too_large_by e limit mu) ∙ h)
     ∙ ap made s
 
+-- where it is, the outcome is no other
 pub too_large_of : (e limit : ℕ) (mu : List ℕ) → is_too_large (outcome e limit mu) ≡ true →
     outcome e limit mu ≡ TooLarge
 too_large_of e limit mu h =
@@ -102,7 +112,7 @@ weight_past e limit mu =
     ∙ ap (λ b. nat_lt limit (ladder_weight e mu) || b)
     (greatest_past limit (map sizes (partitions (degree mu)))
     ∙ any-map (nat_lt limit) sizes (partitions (degree mu))
-    ∙ any_alike (λ lambda. nat_lt limit (sizes lambda)) (λ lambda. nat_lt limit (total e mu 0 lambda))
+    ∙ any-alike (λ lambda. nat_lt limit (sizes lambda)) (λ lambda. nat_lt limit (total e mu 0 lambda))
     (partitions (degree mu)) (λ lambda. ap (nat_lt limit) (all_sizes e mu lambda)))
   where
     sizes : List ℕ → ℕ
@@ -131,7 +141,7 @@ outcome_past e limit mu =
     too_large_by e limit mu
     ∙ needed_split e (λ kappa. nat_lt limit (weight e kappa)) mu
     ∙ ap₂ (λ a b. a || b) (weight_past e limit mu)
-    (any_alike (λ a. list_any (λ kappa. nat_lt limit (weight e kappa)) (needed e a.0))
+    (any-alike (λ a. list_any (λ kappa. nat_lt limit (weight e kappa)) (needed e a.0))
     (λ a. is_too_large (outcome e limit a.0)) (given e mu 0) (λ a. sym (too_large_by e limit a.0)))
     ∙ regrouped (nat_lt limit (ladder_weight e mu)) (total_past e limit mu 0)
     (list_any (λ a. is_too_large (outcome e limit a.0)) (given e mu 0))
@@ -219,7 +229,7 @@ module _ (e limit : ℕ) (mu : List ℕ) (is : IsLabel e mu) where
   -- past the limit, the outcome is too large
   pub decided : (t : ℕ) → is_past e limit mu t ≡ true → is_too_large (outcome e limit mu) ≡ true
   unfolding is_past
-  decided t h = outcome_past e limit mu ∙ by_reason (or_split ladder (given_past e limit mu t || others t) h)
+  decided t h = outcome_past e limit mu ∙ by_reason (or_cases ladder (given_past e limit mu t || others t) h)
     where
       ladder : Bool
       ladder = nat_lt limit (ladder_weight e mu)
@@ -228,9 +238,9 @@ module _ (e limit : ℕ) (mu : List ℕ) (is : IsLabel e mu) where
       others s = total_past e limit mu s || share_past e limit mu (next_rank e mu s)
 
       by_total : total_past e limit mu 0 ≡ true → (ladder || (given_past e limit mu 0 || others 0)) ≡ true
-      by_total w = or_true ladder (given_past e limit mu 0 || others 0)
-          (or_true (given_past e limit mu 0) (others 0)
-          (true_or (total_past e limit mu 0) (share_past e limit mu (next_rank e mu 0)) w))
+      by_total w = or_right ladder (given_past e limit mu 0 || others 0)
+          (or_right (given_past e limit mu 0) (others 0)
+          (or_left (total_past e limit mu 0) (share_past e limit mu (next_rank e mu 0)) w))
 
       by_others : (total_past e limit mu t ≡ true) ⊎ (share_past e limit mu (next_rank e mu t) ≡ true) →
           (ladder || (given_past e limit mu 0 || others 0)) ≡ true
@@ -239,15 +249,15 @@ module _ (e limit : ℕ) (mu : List ℕ) (is : IsLabel e mu) where
 
       by_given : (given_past e limit mu t ≡ true) ⊎ (others t ≡ true) →
           (ladder || (given_past e limit mu 0 || others 0)) ≡ true
-      by_given (inl w) = or_true ladder (given_past e limit mu 0 || others 0)
-          (true_or (given_past e limit mu 0) (others 0) (given_stays t w))
+      by_given (inl w) = or_right ladder (given_past e limit mu 0 || others 0)
+          (or_left (given_past e limit mu 0) (others 0) (given_stays t w))
       by_given (inr w) =
-          by_others (or_split (total_past e limit mu t) (share_past e limit mu (next_rank e mu t)) w)
+          by_others (or_cases (total_past e limit mu t) (share_past e limit mu (next_rank e mu t)) w)
 
       by_reason : (ladder ≡ true) ⊎ ((given_past e limit mu t || others t) ≡ true) →
           (ladder || (given_past e limit mu 0 || others 0)) ≡ true
-      by_reason (inl w) = true_or ladder (given_past e limit mu 0 || others 0) w
-      by_reason (inr w) = by_given (or_split (given_past e limit mu t) (others t) w)
+      by_reason (inl w) = or_left ladder (given_past e limit mu 0 || others 0) w
+      by_reason (inr w) = by_given (or_cases (given_past e limit mu t) (others t) w)
 
   -- ---- from rank to rank
 
@@ -259,8 +269,8 @@ module _ (e limit : ℕ) (mu : List ℕ) (is : IsLabel e mu) where
   unfolding is_past given_past
   past_step t j h n =
       ap (λ fs. ladder || (list_any test fs || others)) (step e mu t j n).more
-      ∙ kept ladder (test (share_at e mu j)) (list_any test (given e mu t)) others (or_fits ladder _ h).0
-      (or_fits (list_any test (given e mu t)) _ (or_fits ladder _ h).1).0
+      ∙ kept ladder (test (share_at e mu j)) (list_any test (given e mu t)) others (or_parts ladder _ h).0
+      (or_parts (list_any test (given e mu t)) _ (or_parts ladder _ h).1).0
     where
       ladder : Bool
       ladder = nat_lt limit (ladder_weight e mu)

@@ -12,6 +12,7 @@ find_down p t =
     ap (λ xs. find p (reverse xs)) (range_snoc 0 t ∙ ap (λ n. range_with_len 0 t ++ (n ∷ [])) (zero-add t))
     ∙ ap (find p) (reverse-append (range_with_len 0 t) (t ∷ []))
 
+-- none is found where none below passes
 pub find_down_none : (p : ℕ → Bool) (t : ℕ) → ((i : ℕ) → i < t → p i ≡ false) →
     find p (reverse (range_with_len 0 t)) ≡ None
 find_down_none p zero f = refl
@@ -20,6 +21,7 @@ find_down_none p (suc t) f =
     ∙ ap (λ b. cond b (Some t) (find p (reverse (range_with_len 0 t)))) (f t (omega arith))
     ∙ find_down_none p t (λ i lt. f i (omega (arith, lt)))
 
+-- none below passes where none is found
 pub none_below : (p : ℕ → Bool) (t : ℕ) → find p (reverse (range_with_len 0 t)) ≡ None → (i : ℕ) → i < t →
     p i ≡ false
 none_below p zero h i lt = absurd (omega arith)

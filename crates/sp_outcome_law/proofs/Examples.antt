@@ -19,6 +19,7 @@ unfolding asked is_past share_past total_past given_past total left given share_
     partitions partitions_within nodes_from sum_over plus collect add_term int_sum
 asked_5 = refl
 
+-- no rank is asked for
 pub asked_after_5 : asked 2 3 (5 ∷ []) 0 ≡ None
 unfolding asked is_past share_past total_past given_past total left given share_at next_rank
     outcome needed_among vector_of weight ladder_weight partial_ladder_vector shares shares_over
@@ -44,6 +45,7 @@ unfolding asked is_past share_past total_past given_past total left given share_
     partitions partitions_within nodes_from sum_over plus collect add_term int_sum
 within_2 = refl
 
+-- past the limit 2
 pub past_2 : is_past 2 2 (5 ∷ []) 0 ≡ true
 unfolding asked is_past share_past total_past given_past total left given share_at next_rank
     outcome needed_among vector_of weight ladder_weight partial_ladder_vector shares shares_over
@@ -68,6 +70,7 @@ unfolding share_at next_rank
     partitions partitions_within nodes_from sum_over plus collect add_term int_sum
 next_7 = refl
 
+-- the next rank
 pub next_after_7 : next_rank 2 (7 ∷ []) 2 ≡ Some 0
 unfolding share_at next_rank
     shares shares_over factors combination lift negate times products regulars
@@ -75,6 +78,7 @@ unfolding share_at next_rank
     partitions partitions_within nodes_from sum_over plus collect add_term int_sum
 next_after_7 = refl
 
+-- what has been given
 pub given_7 : given 2 (7 ∷ []) 1 ≡ ((5 ∷ 2 ∷ []), (pos 0, pos 2) ∷ []) ∷ []
 unfolding given shares shares_over factors combination lift negate times products regulars
     ladder_vector chain_sum chains_to chain_exponent steps ladders on_ladder sources is_move exponent
@@ -90,6 +94,7 @@ unfolding asked is_past share_past total_past given_past total left given share_
     partitions partitions_within nodes_from sum_over plus collect add_term int_sum
 past_7 = refl
 
+-- within the limit 6
 pub within_7 : is_past 2 6 (7 ∷ []) 0 ≡ false
 unfolding asked is_past share_past total_past given_past total left given share_at next_rank
     outcome needed_among vector_of weight ladder_weight partial_ladder_vector shares shares_over

@@ -3,17 +3,18 @@ use Rattle.std.proofs.Common.{◌≡◌, ℕ, ◌<◌, ◌≤◌, true, false, �
 use Rattle.std.proofs.Common.{arith, ltb-true, lt-ltb, ◌⊎◌, inl, inr}
 use Rattle.std.proofs.Math.Bool.{or_assoc, or-false}
 use Rattle.std.specs.List.{list_any}
-use Rattle.sp_lists.proofs.Elements.{or_split, le_or_lt}
-use Rattle.sp_outcome_law.proofs.Listed.{same_tests, true_or, or_true}
+use Rattle.sp_lists.proofs.Elements.{le_or_lt, same_tests}
+use Rattle.std.proofs.lemmas.Bool.{or_cases, or_left, or_right}
 
+-- the greater of two
 pub past_max : (b m n : ℕ) → nat_lt b (max m n) ≡ (nat_lt b m || nat_lt b n)
 past_max b m n = same_tests (nat_lt b (max m n)) (nat_lt b m || nat_lt b n)
     (λ h. settle (ltb-true b (max m n) h) (le_or_lt m b))
-    (λ h. back (or_split (nat_lt b m) (nat_lt b n) h))
+    (λ h. back (or_cases (nat_lt b m) (nat_lt b n) h))
   where
     settle : b < max m n → (m ≤ b) ⊎ (b < m) → (nat_lt b m || nat_lt b n) ≡ true
-    settle h (inl le) = or_true (nat_lt b m) (nat_lt b n) (lt-ltb b n (omega (arith, h, le)))
-    settle h (inr lt) = true_or (nat_lt b m) (nat_lt b n) (lt-ltb b m lt)
+    settle h (inl le) = or_right (nat_lt b m) (nat_lt b n) (lt-ltb b n (omega (arith, h, le)))
+    settle h (inr lt) = or_left (nat_lt b m) (nat_lt b n) (lt-ltb b m lt)
 
     back : (nat_lt b m ≡ true) ⊎ (nat_lt b n ≡ true) → nat_lt b (max m n) ≡ true
     back (inl h) = lt-ltb b (max m n) (omega (arith, ltb-true b m h))
@@ -26,6 +27,7 @@ fold_past b start (x ∷ xs) =
     ∙ ap (λ t. t || list_any (nat_lt b) xs) (past_max b start x)
     ∙ or_assoc (nat_lt b start) (nat_lt b x) (list_any (nat_lt b) xs)
 
+-- the greatest of a list
 pub greatest_past : (b : ℕ) (xs : List ℕ) → nat_lt b (fold max 0 xs) ≡ list_any (nat_lt b) xs
 greatest_past b xs = fold_past b 0 xs ∙ ap (λ t. t || list_any (nat_lt b) xs) (nothing b)
   where

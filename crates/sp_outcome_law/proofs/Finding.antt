@@ -4,26 +4,23 @@ use Rattle.std.proofs.Common.{◌≡◌, ◌≢◌, ℕ, zero, suc, ◌<◌, ◌
 use Rattle.std.proofs.Common.{length, get_or, drop, refl, sym, ◌∙◌, ap, ap₂, subst, arith, Some, None, filter}
 use Rattle.std.proofs.Common.{reverse, Less}
 use Rattle.std.specs.List.{AllByRecursion, find, range_with_len}
-use Rattle.sp_defs.specs.Partition.{degree, regulars, compare, Ascending, IsRegularOf}
-use Rattle.sp_defs.specs.Laurent.{Laurent, plus, negate, times, lift}
+use Rattle.sp_defs.specs.Partition.{degree, regulars, compare, Ascending}
+use Rattle.sp_defs.specs.Laurent.{Laurent, plus, negate, lift}
 use Rattle.sp_defs.specs.Power.{Vector}
 use Rattle.sp_defs.specs.Ladder.{ladder_vector}
-use Rattle.sp_defs.specs.Row.{Factors, combination, before, earlier, factors, regular_row, shares, shares_over}
+use Rattle.sp_defs.specs.Row.{combination, earlier, regular_row, shares, shares_over}
 use Rattle.sp_defs.specs.Statements.{IsLabel}
 use Rattle.sp_lists.proofs.Elements.{all_every, all_both, all_left, all_right}
-use Rattle.sp_algebra.proofs.Sums.{sum_over-alike}
-use Rattle.sp_shapes.proofs.Order.{all_mono}
-use Rattle.sp_shapes.proofs.Before.{before_before, all_before, all_kept, Ascending-before}
-use Rattle.sp_shapes.proofs.Listing.{all_regulars, regulars_ascend}
 use Rattle.sp_triangle.proofs.Shares.{rows, keys-shares, from_keys}
 use Rattle.sp_triangle.proofs.NextShare.{share_of, next_share}
-use Rattle.sp_row_law.proofs.RowsLaw.{ladder_triangle, IsLaurent-ladder_vector}
+use Rattle.sp_row_law.proofs.Setting.{Good, IsBefore, good, good_earlier, earlier_before, earlier_ascends, triangle}
+use Rattle.sp_row_law.proofs.Setting.{rows_same, IsLaurent-ladder_vector}
 use Rattle.sp_outcome_law.specs.Asking.{is_nonzero, share_at, given, next_rank, left}
 use Rattle.sp_outcome_law.proofs.Listed.{IsPlace, place_of}
 use Rattle.sp_outcome_law.proofs.Downwards.{find_down, find_down_none, find_down_some, none_below}
 use Rattle.sp_outcome_law.proofs.Listed.{no_element, has_element}
 use Rattle.sp_outcome_law.proofs.Reached.{next_at, next_zero, Passed, passed_more, passed_start, step}
-use Rattle.sp_outcome_law.proofs.Ranks.{label_regular, earlier_at}
+use Rattle.sp_outcome_law.proofs.Ranks.{earlier_at}
 use Rattle.sp_outcome_law.proofs.Left.{combination_nonzero, left_same}
 
 -- ---- an ascending list in two parts
@@ -65,61 +62,32 @@ module _ (e : ℕ) (mu : List ℕ) (is : IsLabel e mu) where
   abbrev A : List ℕ → Vector
   A = ladder_vector e
 
-  abbrev Good : List ℕ → Type 0
-  Good = IsRegularOf e (degree mu)
-
-  abbrev seg : List (List ℕ)
-  seg = earlier e mu
-
-  good_seg : AllByRecursion Good seg
-  good_seg = all_kept Good mu (regulars e (degree mu)) (all_regulars e (degree mu))
-
-  ascending : Ascending seg
-  ascending = Ascending-before mu (regulars e (degree mu)) (regulars_ascend e (degree mu))
-
-  -- the rows over the earlier partitions are the regular rows
-  row_same : (kappa lambda : List ℕ) → Good kappa → compare kappa mu ≡ Less →
-      rows A seg kappa lambda ≡ regular_row e kappa lambda
-  unfolding regular_row
-  row_same kappa lambda g lt =
-      ap (λ s. combination A (factors A kappa s) lambda)
-      (before_before kappa mu (regulars e (degree mu)) lt ∙ ap (λ d. before kappa (regulars e d)) (sym g.total))
-
-  rows_same : (fs : Factors) (lambda : List ℕ) → AllByRecursion (λ f. Good f.0 × (compare f.0 mu ≡ Less)) fs →
-      combination (rows A seg) fs lambda ≡ combination (regular_row e) fs lambda
-  unfolding combination
-  rows_same fs lambda h = sum_over-alike fs _ _
-      (all_mono (λ f. Good f.0 × (compare f.0 mu ≡ Less))
-      (λ f. times f.1 (rows A seg f.0 lambda) ≡ times f.1 (regular_row e f.0 lambda)) fs
-      (λ f k. ap (times f.1) (row_same f.0 lambda k.0 k.1)) h)
-
   -- where the earlier partitions are cut at nu
-  module _ (nu : List ℕ) (lower later : List (List ℕ)) (cut : earlier e mu ≡ lower ++ (nu ∷ later)) where
+  module _ (nu : List ℕ) (lower later : List (List ℕ)) (cut_at : earlier e mu ≡ lower ++ (nu ∷ later)) where
     abbrev i : ℕ
     i = length lower
 
     at_cut : share_at e mu i ≡ (nu, share_of A mu nu later)
     unfolding share_at shares
-    at_cut = ap (λ s. get_or (shares_over A mu s) i ([], [])) cut ∙ share_here A mu nu lower later ([], [])
+    at_cut = ap (λ s. get_or (shares_over A mu s) i ([], [])) cut_at ∙ share_here A mu nu lower later ([], [])
 
     given_later : given e mu (suc i) ≡ filter is_nonzero (shares_over A mu later)
     unfolding given shares
     given_later =
-        ap (λ s. filter is_nonzero (drop (suc i) (shares_over A mu s))) cut
+        ap (λ s. filter is_nonzero (drop (suc i) (shares_over A mu s))) cut_at
         ∙ ap (filter is_nonzero) (shares_past A mu nu lower later)
 
     two : Ascending (lower ++ (nu ∷ later))
-    two = subst Ascending cut ascending
+    two = subst Ascending cut_at (earlier_ascends e mu)
 
-    good_two : AllByRecursion Good (lower ++ (nu ∷ later))
-    good_two = subst (AllByRecursion Good) cut good_seg
+    good_two : AllByRecursion (Good e mu) (lower ++ (nu ∷ later))
+    good_two = subst (AllByRecursion (Good e mu)) cut_at (good_earlier e mu)
 
-    good_later : AllByRecursion (λ f. Good f.0 × (compare f.0 mu ≡ Less)) (shares_over A mu later)
-    good_later = from_keys (λ kappa. Good kappa × (compare kappa mu ≡ Less)) (shares_over A mu later)
-        (subst (AllByRecursion (λ kappa. Good kappa × (compare kappa mu ≡ Less))) (sym (keys-shares A mu later))
-        (all_right (λ kappa. Good kappa × (compare kappa mu ≡ Less)) lower (nu ∷ later)
-        (subst (AllByRecursion (λ kappa. Good kappa × (compare kappa mu ≡ Less))) cut
-        (all_both Good (λ kappa. compare kappa mu ≡ Less) seg good_seg (all_before mu (regulars e (degree mu)))))).1)
+    before_later : AllByRecursion (λ f. IsBefore e mu f.0) (shares_over A mu later)
+    before_later = from_keys (IsBefore e mu) (shares_over A mu later)
+        (subst (AllByRecursion (IsBefore e mu)) (sym (keys-shares A mu later))
+        (all_right (IsBefore e mu) lower (nu ∷ later)
+        (subst (AllByRecursion (IsBefore e mu)) cut_at (earlier_before e mu))).1)
 
     left_at_cut :
         left e mu (suc i) nu
@@ -129,13 +97,13 @@ module _ (e : ℕ) (mu : List ℕ) (is : IsLabel e mu) where
         ap (λ fs. plus (A mu nu) (negate (combination (regular_row e) fs nu))) given_later
         ∙ ap (λ p. plus (A mu nu) (negate p))
         (combination_nonzero (regular_row e) (shares_over A mu later) nu
-        ∙ sym (rows_same (shares_over A mu later) nu good_later)
-        ∙ ap (λ s. combination (rows A s) (shares_over A mu later) nu) cut)
+        ∙ sym (rows_same e mu (shares_over A mu later) nu before_later)
+        ∙ ap (λ s. combination (rows A s) (shares_over A mu later) nu) cut_at)
 
     lift_at_cut : share_of A mu nu later ≡ lift (left e mu (suc i) nu)
     lift_at_cut =
-        next_share Good A (ladder_triangle e (degree mu) is.e_least) (IsLaurent-ladder_vector e) mu nu lower later
-        (label_regular e mu is) (all_left Good lower (nu ∷ later) good_two) (all_right Good lower (nu ∷ later) good_two)
+        next_share (Good e mu) A (triangle e mu is) (IsLaurent-ladder_vector e) mu nu lower later (good e mu is)
+        (all_left (Good e mu) lower (nu ∷ later) good_two) (all_right (Good e mu) lower (nu ∷ later) good_two)
         (all_lower lower (nu ∷ later) two).0 (all_lower lower (nu ∷ later) two).1
         (ascending_right lower (nu ∷ later) two)
         ∙ ap lift (sym left_at_cut)
@@ -223,6 +191,7 @@ module _ (e : ℕ) (mu : List ℕ) (is : IsLabel e mu) where
       next_found t d h
       ∙ find_down_none (λ i. nat_lt 0 (length (lift_at t i d))) t (λ i lt. ap (λ q. nat_lt 0 (length q)) (f i lt))
 
+  -- where no rank is next, each lift below is 0
   pub no_lift : (t : ℕ) (d : List ℕ) → t ≤ length (earlier e mu) → next_rank e mu t ≡ None → (i : ℕ) → i < t →
       lift_at t i d ≡ []
   no_lift t d h z i lt = no_element (lift_at t i d)

@@ -1,6 +1,7 @@
 -- What is left of the ladder vector, and the sizes added up: at the start, from rank to rank, and at the end, where the
 -- regular row is left.
-use Rattle.std.proofs.Common.{◌≡◌, ℕ, ◌+◌, ◌*◌, ◌≤◌, Bool, true, false, cond, nat_lt, List, [], ◌∷◌, length, refl, sym}
+use Rattle.std.proofs.Common.{◌≡◌, ℕ, ◌+◌, ◌*◌, ◌≤◌, Bool, true, false, cond, nat_lt, List, [], ◌∷◌, length, refl}
+use Rattle.std.proofs.Common.{sym}
 use Rattle.std.proofs.Common.{◌∙◌}
 use Rattle.std.proofs.Common.{ap, arith, Some, None, filter, sum_by, ℤ}
 use Rattle.std.proofs.lemmas.Int.{ints}
@@ -14,7 +15,8 @@ use Rattle.sp_algebra.proofs.Laws.{coefficient-plus, coefficient-negate, IsLaure
 use Rattle.sp_algebra.proofs.Laws.{nought_times}
 use Rattle.sp_algebra.proofs.Coefficients.{same_laurent}
 use Rattle.sp_triangle.proofs.Triangle.{combination-cons, IsLaurent-combination}
-use Rattle.sp_row_law.proofs.RowsLaw.{rows_law, IsLaurent-ladder_vector}
+use Rattle.sp_row_law.proofs.RowsLaw.{rows_law}
+use Rattle.sp_row_law.proofs.Setting.{IsLaurent-ladder_vector}
 use Rattle.sp_outcome_law.specs.Asking.{is_nonzero, share_at, given, next_rank, left, total}
 use Rattle.sp_outcome_law.proofs.Listed.{no_element}
 use Rattle.sp_outcome_law.proofs.Reached.{given_none, Passed, step, all_passed}
@@ -22,11 +24,13 @@ use Rattle.sp_outcome_law.proofs.Ranks.{length_shares}
 
 -- ---- what they give is a polynomial
 
+-- The row's value is a Laurent polynomial.
 pub IsLaurent-row : (e : ℕ) (mu lambda : List ℕ) → IsLaurent (regular_row e mu lambda)
 unfolding regular_row
 IsLaurent-row e mu lambda =
     IsLaurent-combination (ladder_vector e) (factors (ladder_vector e) mu (earlier e mu)) lambda
 
+-- So is what is left.
 pub IsLaurent-left : (e : ℕ) (mu : List ℕ) (t : ℕ) (lambda : List ℕ) → IsLaurent (left e mu t lambda)
 unfolding left
 IsLaurent-left e mu t lambda =
@@ -42,6 +46,7 @@ no_factors : (A : List ℕ → Vector) (lambda : List ℕ) → combination A [] 
 unfolding combination sum_over
 no_factors A lambda = refl
 
+-- With no share given the ladder vector is left.
 pub left_start : (e : ℕ) (mu : List ℕ) (t : ℕ) → length (earlier e mu) ≤ t → (lambda : List ℕ) →
     left e mu t lambda ≡ ladder_vector e mu lambda
 unfolding left
@@ -52,6 +57,7 @@ left_start e mu t h lambda =
     ∙ ap (plus (ladder_vector e mu lambda)) negate_nought
     ∙ plus_nought (ladder_vector e mu lambda) (IsLaurent-ladder_vector e mu lambda)
 
+-- With no share given the total is the size of the ladder vector.
 pub total_start : (e : ℕ) (mu : List ℕ) (t : ℕ) → length (earlier e mu) ≤ t → (lambda : List ℕ) →
     total e mu t lambda ≡ size (ladder_vector e mu lambda)
 unfolding total
@@ -127,6 +133,7 @@ total_step e mu t j h lambda =
 
 -- ---- shares that are 0 add nothing
 
+-- A combination needs only the factors that aren't 0.
 pub combination_nonzero : (A : List ℕ → Vector) (fs : Factors) (lambda : List ℕ) →
     combination A (filter is_nonzero fs) lambda ≡ combination A fs lambda
 combination_nonzero A [] lambda = refl
@@ -146,6 +153,7 @@ combination_nonzero A ((nu, b) ∷ fs) lambda = tested (combination_nonzero A fs
         ∙ ap (λ p. plus p (combination A fs lambda)) (nought_times (A nu lambda))
         ∙ nought_plus (combination A fs lambda) (IsLaurent-combination A fs lambda))
 
+-- A sum of sizes needs only the factors that aren't 0.
 pub sum_nonzero : (g : List ℕ → ℕ) (fs : Factors) →
     sum_by (λ a. size a.1 * g a.0) (filter is_nonzero fs) ≡ sum_by (λ a. size a.1 * g a.0) fs
 sum_nonzero g [] = refl

@@ -3,19 +3,21 @@ use Rattle.std.proofs.Common.{◌≡◌, ◌≢◌, ℕ, Bool, true, false, cond
 use Rattle.std.proofs.Common.{refl, sym, ◌∙◌, ap, subst, ◌⊎◌, inl, inr, Less, is_eq, is_lt, Ordering}
 use Rattle.std.proofs.Common.{Equal, Greater}
 use Rattle.std.specs.List.{AllByRecursion, list_any}
-use Rattle.sp_defs.specs.Partition.{degree, regulars, compare, Ascending, IsRegularOf}
+use Rattle.sp_defs.specs.Partition.{degree, regulars, compare, Ascending}
 use Rattle.sp_defs.specs.Power.{vector_of}
 use Rattle.sp_defs.specs.Row.{Factors, before, earlier, shares, share, IsNeeded, needed_among, needed}
 use Rattle.sp_defs.specs.Row.IsNeeded.{itself, through}
 use Rattle.sp_shapes.proofs.Order.{same_lists, equal_self, less_trans}
-use Rattle.sp_shapes.proofs.Before.{all_before, all_kept, before_before, Ascending-before}
-use Rattle.sp_shapes.proofs.Listing.{Occurs, at_occurs, all_regulars, regulars_ascend}
+use Rattle.sp_shapes.proofs.Before.{all_before, before_before}
+use Rattle.sp_row_law.proofs.Setting.{Good, good_earlier, earlier_ascends}
 use Rattle.sp_outcome_law.specs.Needed.{NeededLaw}
 use Rattle.sp_outcome_law.proofs.Ranks.{keys}
-use Rattle.sp_outcome_law.proofs.Listed.{some_passes, passing, from_filter, contains, occurs, nonempty, has_element}
+use Rattle.sp_outcome_law.proofs.Listed.{nonempty, has_element}
+use Rattle.sp_lists.proofs.Occurrence.{Occurs, at_occurs, some_passes, passing, from_filter, contains, occurs}
 
 -- ---- a needed partition's shares are needed
 
+-- What a needed partition has a share of is needed.
 pub needed_further : (e : ℕ) (kappa nu mu : List ℕ) → IsNeeded e kappa mu → share e kappa nu ≢ [] → IsNeeded e nu mu
 needed_further e kappa nu mu itself ne = through mu nu ne itself
 needed_further e kappa nu mu (through mu' x nz h) ne = through mu' x nz (needed_further e kappa nu x h ne)
@@ -33,6 +35,7 @@ occurs_of ((kappa, p) ∷ fs) nu ne = placed (compare kappa nu) refl (occurs_of 
     placed Less q ih ne = inr (ih ne)
     placed Greater q ih ne = inr (ih ne)
 
+-- A partition with a share is one of the earlier ones.
 pub share_occurs : (e : ℕ) (mu nu : List ℕ) → share e mu nu ≢ [] → Occurs nu (earlier e mu)
 share_occurs e mu nu ne = subst (Occurs nu) (keys e mu) (occurs_of (shares e mu) nu ne)
 
@@ -53,12 +56,8 @@ earlier_earlier e mu x nu o h =
     lower : compare x mu ≡ Less
     lower = at_occurs (λ y. compare y mu ≡ Less) x (earlier e mu) o (all_before mu rs)
 
-    regular : IsRegularOf e (degree mu) x
-    regular = at_occurs (IsRegularOf e (degree mu)) x (earlier e mu) o
-        (all_kept (IsRegularOf e (degree mu)) mu rs (all_regulars e (degree mu)))
-
     same_degree : degree x ≡ degree mu
-    same_degree = regular.total
+    same_degree = (at_occurs (Good e mu) x (earlier e mu) o (good_earlier e mu)).total
 
 -- ---- one partition more
 
@@ -151,7 +150,7 @@ closed e mu x nu (y ∷ later) (u, us) o k ne =
 
 closed_under : (e : ℕ) (mu x nu : List ℕ) → Occurs x (needed e mu) → share e x nu ≢ [] → Occurs nu (needed e mu)
 closed_under e mu x nu o ne =
-    closed e mu x nu (earlier e mu) (Ascending-before mu (regulars e (degree mu)) (regulars_ascend e (degree mu))) o
+    closed e mu x nu (earlier e mu) (earlier_ascends e mu) o
     (place (within e mu x (earlier e mu) o)) ne
   where
     place : Occurs x (mu ∷ earlier e mu) → Occurs nu (earlier e mu)
@@ -164,12 +163,15 @@ complete e kappa mu x (through x' nu ne h) o = complete e kappa mu nu h (closed_
 
 -- ---- the law
 
+-- A needed partition is in the list.
 pub listed : (e : ℕ) (mu kappa : List ℕ) → IsNeeded e kappa mu → Occurs kappa (needed e mu)
 listed e mu kappa h = complete e kappa mu mu h (own e mu (earlier e mu))
 
+-- Each of the list is needed.
 pub is_needed : (e : ℕ) (mu kappa : List ℕ) → Occurs kappa (needed e mu) → IsNeeded e kappa mu
 is_needed e mu kappa o = at_occurs (λ k. IsNeeded e k mu) kappa (needed e mu) o (sound e mu (earlier e mu))
 
+-- The list has exactly those that are needed.
 pub needed_law : NeededLaw
 needed_law e mu kappa = (
   (λ h. is_needed e mu kappa (occurs kappa (needed e mu) h)),

@@ -9,11 +9,11 @@ use Rattle.sp_defs.specs.Laurent.{one}
 use Rattle.sp_defs.specs.Statements.{IsLabel, SameContent}
 use Rattle.sp_lists.proofs.Elements.{le_or_lt}
 use Rattle.sp_lists.proofs.Places.{all_at}
-use Rattle.sp_shapes.proofs.Before.{all_before, all_kept}
-use Rattle.sp_shapes.proofs.Listing.{all_regulars}
+use Rattle.sp_shapes.proofs.Before.{all_before}
 use Rattle.sp_triangle.proofs.Shares.{from_keys}
 use Rattle.sp_row_law.proofs.Contents.{row_content_law}
 use Rattle.sp_row_law.proofs.RowsLaw.{rows_law}
+use Rattle.sp_row_law.proofs.Setting.{Good, good_earlier, label as is_label}
 use Rattle.sp_outcome_law.specs.Asking.{is_nonzero, share_at, next_rank}
 use Rattle.sp_outcome_law.proofs.Listed.{nonempty}
 use Rattle.sp_outcome_law.proofs.Reached.{step}
@@ -51,9 +51,9 @@ rank_at e mu is j lt = sym
     (earlier_at e mu is j [] lt) regular.total)
   where
     regular : IsRegularOf e (degree mu) (share_at e mu j).0
-    regular = at_share e mu (IsRegularOf e (degree mu))
-        (all_kept (IsRegularOf e (degree mu)) mu (regulars e (degree mu)) (all_regulars e (degree mu))) j lt
+    regular = at_share e mu (Good e mu) (good_earlier e mu) j lt
 
+-- what the next rank says: its share isn't 0, and its partition is a label before mu, with mu's content
 pub record IsNext (e : ℕ) (mu : List ℕ) (t j : ℕ) : Type 0 where
   pub lower : j < t
   pub rank : j < length (earlier e mu)
@@ -64,6 +64,7 @@ pub record IsNext (e : ℕ) (mu : List ℕ) (t j : ℕ) : Type 0 where
   pub content : SameContent e mu (share_at e mu j).0
   pub at_itself : regular_row e (share_at e mu j).0 (share_at e mu j).0 ≡ one
 
+-- The rank that is found is the next one.
 pub is_next : (e : ℕ) (mu : List ℕ) → IsLabel e mu → (t j : ℕ) → next_rank e mu t ≡ Some j → IsNext e mu t j
 is_next e mu is t j h = record {
   lower = (step e mu t j h).lower;
@@ -83,8 +84,7 @@ is_next e mu is t j h = record {
     nonzero = nonempty (share_at e mu j).1 (step e mu t j h).nonzero
 
     regular : IsRegularOf e (degree mu) (share_at e mu j).0
-    regular = at_share e mu (IsRegularOf e (degree mu))
-        (all_kept (IsRegularOf e (degree mu)) mu (regulars e (degree mu)) (all_regulars e (degree mu))) j rank
+    regular = at_share e mu (Good e mu) (good_earlier e mu) j rank
 
     label : IsLabel e (share_at e mu j).0
-    label = record { e_least = is.e_least; partition = regular.partition; regular = regular.regular }
+    label = is_label e (degree mu) (share_at e mu j).0 is.e_least regular

@@ -9,38 +9,34 @@ use Rattle.sp_defs.specs.Partition.{degree, regulars, compare, IsRegularOf, Asce
 use Rattle.sp_defs.specs.Ladder.{ladder_vector}
 use Rattle.sp_defs.specs.Row.{before, earlier, shares}
 use Rattle.sp_defs.specs.Statements.{IsLabel}
-use Rattle.sp_shapes.proofs.Before.{about, after, before_self, before_keep, IsCut}
-use Rattle.sp_shapes.proofs.Listing.{all_regulars, each_regular, regulars_ascend}
+use Rattle.sp_shapes.proofs.Before.{after, before_self, before_keep}
+use Rattle.sp_shapes.proofs.Listing.{all_regulars, regulars_ascend}
 use Rattle.sp_triangle.proofs.Shares.{keys-shares}
+use Rattle.sp_row_law.proofs.Setting.{label, cut}
 use Rattle.sp_outcome_law.specs.Asking.{share_at}
 
+-- The partitions of the shares are the earlier ones.
 pub keys : (e : ℕ) (mu : List ℕ) → map (λ a. a.0) (shares e mu) ≡ earlier e mu
 unfolding shares
 keys e mu = keys-shares (ladder_vector e) mu (earlier e mu)
 
+-- So there are as many.
 pub length_shares : (e : ℕ) (mu : List ℕ) → length (shares e mu) ≡ length (earlier e mu)
 length_shares e mu = sym (length-map (shares e mu) (λ a. a.0)) ∙ ap length (keys e mu)
 
 module _ (e : ℕ) (mu : List ℕ) (is : IsLabel e mu) where
-  abbrev rs : List (List ℕ)
-  rs = regulars e (degree mu)
-
-  pub label_regular : IsRegularOf e (degree mu) mu
-  label_regular = record { partition = is.partition; total = refl; regular = is.regular }
-
-  pub cut : IsCut mu rs
-  cut = about mu rs (regulars_ascend e (degree mu)) (each_regular e (degree mu) mu label_regular)
-
   -- mu stands at its rank
   pub at_rank : (d : List ℕ) → get_or (regulars e (degree mu)) (length (earlier e mu)) d ≡ mu
   at_rank d =
-      ap (λ xs. get_or xs (length (earlier e mu)) d) cut.whole
-      ∙ get_or-append_seam (earlier e mu) mu (after mu rs) d
+      ap (λ xs. get_or xs (length (earlier e mu)) d) (cut e mu is).whole
+      ∙ get_or-append_seam (earlier e mu) mu (after mu (regulars e (degree mu))) d
 
+  -- so the rank is less than the number of them
   pub rank_within : length (earlier e mu) < length (regulars e (degree mu))
   rank_within =
-      let l : length rs ≡ length (earlier e mu) + suc (length (after mu rs)) =
-      ap length cut.whole ∙ length-append (earlier e mu) (mu ∷ after mu rs) in
+      let l : length (regulars e (degree mu))
+      ≡ length (earlier e mu) + suc (length (after mu (regulars e (degree mu)))) =
+      ap length (cut e mu is).whole ∙ length-append (earlier e mu) (mu ∷ after mu (regulars e (degree mu))) in
       omega (arith, l)
 
   -- the partition of a lower rank is that of the share there
@@ -48,8 +44,8 @@ module _ (e : ℕ) (mu : List ℕ) (is : IsLabel e mu) where
       get_or (regulars e (degree mu)) j d ≡ (share_at e mu j).0
   unfolding share_at
   earlier_at j d h =
-      ap (λ xs. get_or xs j d) cut.whole
-      ∙ get_or_append_left (earlier e mu) (mu ∷ after mu rs) d j h
+      ap (λ xs. get_or xs j d) (cut e mu is).whole
+      ∙ get_or_append_left (earlier e mu) (mu ∷ after mu (regulars e (degree mu))) d j h
       ∙ ap (λ xs. get_or xs j d) (sym (keys e mu))
       ∙ get_or-map (λ a. a.0) (shares e mu) j ([], []) d (omega (arith, length_shares e mu, h))
 
@@ -65,6 +61,7 @@ place_before (x ∷ xs) (suc k) mu d (u, us) h at =
     (all_at (λ y. compare x y ≡ Less) xs k d u (omega (arith, h))) in
     ap suc (place_before xs k mu d us (omega (arith, h)) at) ∙ ap length (sym (before_keep x mu xs e))
 
+-- The place of mu in the list is its rank.
 pub rank_of : (e n k : ℕ) (mu d : List ℕ) → k < length (regulars e n) → get_or (regulars e n) k d ≡ mu → degree mu ≡ n →
     k ≡ length (earlier e mu)
 rank_of e n k mu d h at t =
@@ -76,9 +73,10 @@ pub record IsRanked (e n k : ℕ) (mu : List ℕ) : Type 0 where
   pub total : degree mu ≡ n
   pub rank : length (earlier e mu) ≡ k
 
+-- The partition at a place is a label of that rank.
 pub ranked : (e n k : ℕ) (d : List ℕ) → 2 ≤ e → k < length (regulars e n) → IsRanked e n k (get_or (regulars e n) k d)
 ranked e n k d least h = record {
-  label = record { e_least = least; partition = at.partition; regular = at.regular };
+  label = label e n (get_or (regulars e n) k d) least at;
   total = at.total;
   rank = sym (rank_of e n k (get_or (regulars e n) k d) d h refl at.total);
 }

@@ -9,16 +9,19 @@ use Rattle.sp_outcome_law.proofs.Downwards.{find_down}
 
 -- ---- one rank
 
+-- The shares given from a rank on: the share there, if it isn't 0, and those from the next rank on.
 pub given_at : (e : ℕ) (mu : List ℕ) (t : ℕ) →
     given e mu t ≡ cond (is_nonzero (share_at e mu t)) (share_at e mu t ∷ given e mu (suc t)) (given e mu (suc t))
 unfolding given share_at
 given_at e mu t = filter-drop is_nonzero (shares e mu) t ([], []) refl
 
+-- The next rank below t + 1 is t, if its share isn't 0, or the next one below t.
 pub next_at : (e : ℕ) (mu : List ℕ) (t : ℕ) →
     next_rank e mu (suc t) ≡ cond (is_nonzero (share_at e mu t)) (Some t) (next_rank e mu t)
 unfolding next_rank
 next_at e mu t = find_down (λ j. is_nonzero (share_at e mu j)) t
 
+-- Below the rank 0 there is none.
 pub next_zero : (e : ℕ) (mu : List ℕ) → next_rank e mu 0 ≡ None
 unfolding next_rank
 next_zero e mu = refl
@@ -30,13 +33,16 @@ given_none e mu t h = ap (filter is_nonzero) (drop_all t (shares e mu) h)
 
 -- ---- the ranks between i and t have no share
 
+-- The shares from i up to t are 0, so far as it shows: the same is given, and the same is next.
 pub record Passed (e : ℕ) (mu : List ℕ) (i t : ℕ) : Type 0 where
   pub same_given : given e mu i ≡ given e mu t
   pub same_next : next_rank e mu t ≡ next_rank e mu i
 
+-- None stands between t and t.
 pub passed_start : (e : ℕ) (mu : List ℕ) (t : ℕ) → Passed e mu t t
 passed_start e mu t = record { same_given = refl; same_next = refl }
 
+-- One rank more whose share is 0.
 pub passed_more : (e : ℕ) (mu : List ℕ) (i t : ℕ) → is_nonzero (share_at e mu i) ≡ false → Passed e mu (suc i) t →
     Passed e mu i t
 passed_more e mu i t z h = record {
@@ -47,6 +53,7 @@ passed_more e mu i t z h = record {
   same_next = h.same_next ∙ next_at e mu i ∙ ap (λ b. cond b (Some i) (next_rank e mu i)) z;
 }
 
+-- Two such stretches are one.
 pub passed_on : (e : ℕ) (mu : List ℕ) (i j t : ℕ) → Passed e mu i j → Passed e mu j t → Passed e mu i t
 passed_on e mu i j t h k = record { same_given = h.same_given ∙ k.same_given; same_next = k.same_next ∙ h.same_next }
 
@@ -63,6 +70,7 @@ passed_between e mu (suc count) i t s f =
 
 -- ---- a next rank
 
+-- What the next rank j below t says.
 pub record IsStep (e : ℕ) (mu : List ℕ) (t j : ℕ) : Type 0 where
   pub lower : j < t
   pub nonzero : is_nonzero (share_at e mu j) ≡ true

@@ -2,20 +2,21 @@
 use Rattle.std.proofs.Common.{◌≡◌, ◌≢◌, ℕ, Bool, true, cond, ◌||◌, List, [], ◌∷◌, map, refl, sym, ◌∙◌, ap, subst}
 use Rattle.std.proofs.Common.{◌⊎◌, inl, inr, Less, Equal, Greater, Ordering, is_eq}
 use Rattle.std.specs.List.{list_any}
-use Rattle.sp_defs.specs.Partition.{degree, regulars, compare, Ascending}
+use Rattle.sp_defs.specs.Partition.{compare, Ascending}
 use Rattle.sp_defs.specs.Laurent.{Laurent}
 use Rattle.sp_defs.specs.Power.{vector_of}
 use Rattle.sp_defs.specs.Row.{Factors, earlier, shares, share, IsNeeded, needed}
 use Rattle.sp_defs.specs.Row.IsNeeded.{itself, through}
-use Rattle.sp_lists.proofs.Elements.{or_split}
 use Rattle.sp_shapes.proofs.Order.{same_lists, equal_self}
-use Rattle.sp_shapes.proofs.Before.{Ascending-before}
-use Rattle.sp_shapes.proofs.Listing.{Occurs, at_occurs, occurs_map, occurs_filter, regulars_ascend}
+use Rattle.sp_row_law.proofs.Setting.{earlier_ascends}
 use Rattle.sp_outcome_law.specs.Asking.{is_nonzero, given}
-use Rattle.sp_outcome_law.proofs.Listed.{some_passes, passing, from_filter, nonempty, has_element, same_tests, true_or}
-use Rattle.sp_outcome_law.proofs.Listed.{or_true}
+use Rattle.sp_outcome_law.proofs.Listed.{nonempty, has_element}
 use Rattle.sp_outcome_law.proofs.Ranks.{keys}
 use Rattle.sp_outcome_law.proofs.Needed.{listed, is_needed, own}
+use Rattle.std.proofs.lemmas.Bool.{or_cases, or_left, or_right}
+use Rattle.sp_lists.proofs.Occurrence.{Occurs, at_occurs, occurs_map, occurs_filter, some_passes, passing}
+use Rattle.sp_lists.proofs.Occurrence.{from_filter}
+use Rattle.sp_lists.proofs.Elements.{same_tests}
 
 -- ---- entries and the vector that they give
 
@@ -56,6 +57,7 @@ unfolding given
 share_given e mu nu ne = occurs_filter is_nonzero (entry nu (share e mu nu)) (shares e mu)
     (has_element (share e mu nu) ne) (entry_occurs (shares e mu) nu ne)
 
+-- a given share isn't 0
 pub given_share : (e : ℕ) (mu : List ℕ) (a : List ℕ × Laurent) → Occurs a (given e mu 0) → share e mu a.0 ≢ []
 unfolding given
 given_share e mu a o z =
@@ -63,8 +65,7 @@ given_share e mu a o z =
     nonempty a.1 f.1 (sym (entry_value (shares e mu) a ascending f.0) ∙ z)
   where
     ascending : Ascending (map (λ f. f.0) (shares e mu))
-    ascending = subst Ascending (sym (keys e mu))
-        (Ascending-before mu (regulars e (degree mu)) (regulars_ascend e (degree mu)))
+    ascending = subst Ascending (sym (keys e mu)) (earlier_ascends e mu)
 
 -- ---- the needed ones, share by share
 
@@ -74,16 +75,16 @@ module _ (e : ℕ) (p : List ℕ → Bool) where
   some_further mu = list_any (λ a. list_any p (needed e a.0)) (given e mu 0)
 
   split_from : (kappa mu : List ℕ) → IsNeeded e kappa mu → p kappa ≡ true → (p mu || some_further mu) ≡ true
-  split_from kappa mu itself s = true_or (p kappa) (some_further kappa) s
+  split_from kappa mu itself s = or_left (p kappa) (some_further kappa) s
   split_from kappa mu (through mu' nu ne h) s =
-      or_true (p mu') (some_further mu')
+      or_right (p mu') (some_further mu')
       (some_passes (λ a. list_any p (needed e a.0)) (entry nu (share e mu' nu)) (given e mu' 0)
       (share_given e mu' nu ne) (some_passes p kappa (needed e nu) (listed e nu kappa h) s))
 
   -- a test of the needed ones is the test of the partition, or of those that its shares need
   pub needed_split : (mu : List ℕ) → list_any p (needed e mu) ≡ (p mu || some_further mu)
   needed_split mu = same_tests (list_any p (needed e mu)) (p mu || some_further mu)
-      (λ h. from_list (passing p (needed e mu) h)) (λ h. into_list (or_split (p mu) (some_further mu) h))
+      (λ h. from_list (passing p (needed e mu) h)) (λ h. into_list (or_cases (p mu) (some_further mu) h))
     where
       from_list : (k : List ℕ) × Occurs k (needed e mu) × (p k ≡ true) → (p mu || some_further mu) ≡ true
       from_list (k, o, s) = split_from k mu (is_needed e mu k o) s

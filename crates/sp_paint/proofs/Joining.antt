@@ -1,6 +1,6 @@
 -- Lists of texts with commas between them, made item by item.
 use Rattle.std.proofs.Common.{◌≡◌, ℕ, zero, suc, ◌+◌, ◌<◌, Bool, true, false, cond, not, nat_eq, ◌||◌, List, []}
-use Rattle.std.proofs.Common.{◌∷◌, ◌++◌, map, filter, take, length, get_or, codes, refl, sym, ◌∙◌, ap, arith}
+use Rattle.std.proofs.Common.{◌∷◌, ◌++◌, map, filter, flat_map, take, length, get_or, codes, refl, sym, ◌∙◌, ap, arith}
 use Rattle.std.proofs.Common.{append_assoc, append-nil, ne_eqb}
 use Rattle.std.specs.List.{list_any}
 use Rattle.std.proofs.lemmas.List.{map-append, take_more}
@@ -53,6 +53,25 @@ written_item {X = X} f xs i x old before now lt is h e =
   where
     item : X → List ℕ
     item y = cond (nat_eq i 0) [] (codes ",") ++ f y
+
+-- The first text stands alone, and each later one behind a comma.
+pub joined_by-first : {X : Type 0} (f : X → List ℕ) (x : X) (xs : List X) →
+    joined_by (codes ",") (map f (x ∷ xs)) ≡ f x ++ flat_map (λ y. codes "," ++ f y) xs
+joined_by-first f x [] = sym (append-nil (f x))
+joined_by-first f x (y ∷ ys) =
+    ap (λ t. f x ++ codes "," ++ t) (joined_by-first f y ys)
+    ∙ append_assoc (f x) (codes ",") (f y ++ flat_map (λ z. codes "," ++ f z) ys)
+    ∙ ap (λ t. f x ++ t) (sym (append_assoc (codes ",") (f y) (flat_map (λ z. codes "," ++ f z) ys)))
+
+-- A first text and then the later ones are all of them, with commas.
+pub written_items : {X : Type 0} (f : X → List ℕ) (all xs : List X) (x : X) (old first new : List ℕ) →
+    all ≡ x ∷ xs → first ≡ old ++ f x → new ≡ first ++ flat_map (λ y. codes "," ++ f y) xs →
+    new ≡ old ++ joined_by (codes ",") (map f all)
+written_items f all xs x old first new split begun e =
+    e ∙ ap (λ t. t ++ flat_map (λ y. codes "," ++ f y) xs) begun
+    ∙ append_assoc old (f x) (flat_map (λ y. codes "," ++ f y) xs)
+    ∙ ap (λ t. old ++ t) (sym (joined_by-first f x xs))
+    ∙ ap (λ ys. old ++ joined_by (codes ",") (map f ys)) (sym split)
 
 -- ---- one more distinct number
 

@@ -73,6 +73,10 @@ tex_page number g =
 abbrev pub gap_row_text : List Laurent → List ℕ
 gap_row_text cells = codes "[" ++ joined_by (codes ",") (map (notation.polynomial_text Starred) cells) ++ codes "]"
 
+-- A cell behind another one.
+abbrev pub gap_later_text : Laurent → List ℕ
+gap_later_text p = codes "," ++ notation.polynomial_text Starred p
+
 -- An assignment to a variable that is numbered: the list of the lines, each the list of its cells
 -- (this project's own).
 abbrev pub gap_page : ℕ → GridValue → List ℕ

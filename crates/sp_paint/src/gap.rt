@@ -1,12 +1,12 @@
 //! The form Gap: matrices as lists of lists.
-ghost use Rattle.std.specs.Prelude.{◌≡◌, ◌++◌, cond, nat_eq, [], take, length, map, codes, OnOk, OnErr};
+ghost use Rattle.std.specs.Prelude.{◌≡◌, ◌++◌, cond, nat_eq, [], take, length, map, flat_map, codes, OnOk, OnErr};
 ghost use Rattle.sp_defs.specs.Text.{joined_by};
 ghost use Rattle.sp_paint.specs.Notation.{polynomial_text};
-ghost use Rattle.sp_paint.specs.Page.{gap_page, gap_row_text};
+ghost use Rattle.sp_paint.specs.Page.{gap_later_text, gap_page, gap_row_text};
 
 use crate::notation::{Notation, put_polynomial};
 use crate::text::{put_comma, put_number};
-use sp_fock::Grid;
+use sp_fock::{Grid, Row};
 use sp_laurent::Laurent;
 use std::alloc::AllocError;
 
@@ -35,9 +35,9 @@ fn put_rows(grid: &Grid, out: &mut Vec<u8>) -> Result<(), AllocError>
 }
 
 // The cells of the line at this place, behind the comma.
-fn put_next_row(place: usize, cells: &[Laurent], out: &mut Vec<u8>) -> Result<(), AllocError>
+fn put_next_row(place: usize, cells: Row<'_>, out: &mut Vec<u8>) -> Result<(), AllocError>
     ensures text { OnOk result (
-        out.new.items ≡ out.old.items ++ (cond (nat_eq place 0) [] (codes ",") ++ gap_row_text cells.now)) }
+        out.new.items ≡ out.old.items ++ (cond (nat_eq place 0) [] (codes ",") ++ gap_row_text cells.entry)) }
     ensures kept { OnErr result (take (length out.old.items) out.new.items ≡ out.old.items) }
 {
     put_comma(place, out)?;
@@ -46,23 +46,32 @@ fn put_next_row(place: usize, cells: &[Laurent], out: &mut Vec<u8>) -> Result<()
     Ok(out.push(b']')?)
 }
 
-fn put_cells(cells: &[Laurent], out: &mut Vec<u8>) -> Result<(), AllocError>
+fn put_cells(mut cells: Row<'_>, out: &mut Vec<u8>) -> Result<(), AllocError>
     ensures text { OnOk result (
-        out.new.items ≡ out.old.items ++ joined_by (codes ",") (map (polynomial_text Notation.Starred) cells.now)) }
+        out.new.items ≡ out.old.items ++ joined_by (codes ",") (map (polynomial_text Notation.Starred) cells.entry)) }
     ensures kept { OnErr result (take (length out.old.items) out.new.items ≡ out.old.items) }
 {
-    for place in 0..cells.len() {
-        put_next_cell(place, &cells[place], out)?;
+    let Some(first) = cells.next() else {
+        return Ok(());
+    };
+    put_polynomial(Notation::Starred, first, out)?;
+    put_later_cells(cells, out)
+}
+
+fn put_later_cells(cells: Row<'_>, out: &mut Vec<u8>) -> Result<(), AllocError>
+    ensures text { OnOk result (out.new.items ≡ out.old.items ++ flat_map gap_later_text cells.entry) }
+    ensures kept { OnErr result (take (length out.old.items) out.new.items ≡ out.old.items) }
+{
+    for cell in cells {
+        put_later_cell(cell, out)?;
     }
     Ok(())
 }
 
-fn put_next_cell(place: usize, cell: &Laurent, out: &mut Vec<u8>) -> Result<(), AllocError>
-    ensures text { OnOk result (
-        out.new.items ≡ out.old.items
-        ++ (cond (nat_eq place 0) [] (codes ",") ++ polynomial_text Notation.Starred cell.now)) }
+fn put_later_cell(cell: &Laurent, out: &mut Vec<u8>) -> Result<(), AllocError>
+    ensures text { OnOk result (out.new.items ≡ out.old.items ++ gap_later_text cell.now) }
     ensures kept { OnErr result (take (length out.old.items) out.new.items ≡ out.old.items) }
 {
-    put_comma(place, out)?;
+    out.push(b',')?;
     put_polynomial(Notation::Starred, cell, out)
 }

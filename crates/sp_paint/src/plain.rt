@@ -3,7 +3,7 @@ ghost use Rattle.std.specs.Prelude.{◌≡◌, ◌++◌, take, length, flat_map,
 ghost use Rattle.sp_paint.specs.Page.{plain_cell_text, plain_column_text, plain_head, plain_page, plain_row_text};
 ghost use Rattle.sp_paint.specs.Page.{rows_of};
 
-use sp_fock::Grid;
+use sp_fock::{Grid, Row};
 use sp_laurent::Laurent;
 use sp_partition::Partition;
 use std::alloc::{AllocError, Global};
@@ -64,10 +64,10 @@ fn put_rows(alloc: Global, grid: &Grid, out: &mut Vec<u8>) -> Result<(), AllocEr
 fn put_row(
     alloc: Global,
     line: &Partition,
-    cells: &[Laurent],
+    cells: Row<'_>,
     out: &mut Vec<u8>,
 ) -> Result<(), AllocError>
-    ensures text { OnOk result (out.new.items ≡ out.old.items ++ plain_row_text (line.now, cells.now)) }
+    ensures text { OnOk result (out.new.items ≡ out.old.items ++ plain_row_text (line.now, cells.entry)) }
     ensures kept { OnErr result (take (length out.old.items) out.new.items ≡ out.old.items) }
 {
     line.print(alloc, out)?;
@@ -76,8 +76,8 @@ fn put_row(
     Ok(out.push(b'\n')?)
 }
 
-fn put_cells(alloc: Global, cells: &[Laurent], out: &mut Vec<u8>) -> Result<(), AllocError>
-    ensures text { OnOk result (out.new.items ≡ out.old.items ++ flat_map plain_cell_text cells.now) }
+fn put_cells(alloc: Global, cells: Row<'_>, out: &mut Vec<u8>) -> Result<(), AllocError>
+    ensures text { OnOk result (out.new.items ≡ out.old.items ++ flat_map plain_cell_text cells.entry) }
     ensures kept { OnErr result (take (length out.old.items) out.new.items ≡ out.old.items) }
 {
     for cell in cells {

@@ -6,7 +6,7 @@ ghost use Rattle.sp_paint.specs.Page.{tex_partition_text, tex_row_text};
 use crate::notation::{Notation, put_polynomial};
 use crate::parts::put_partition;
 use crate::text::put_number;
-use sp_fock::Grid;
+use sp_fock::{Grid, Row};
 use sp_laurent::Laurent;
 use sp_partition::Partition;
 use std::alloc::AllocError;
@@ -93,8 +93,8 @@ fn put_rows(grid: &Grid, out: &mut Vec<u8>) -> Result<(), AllocError>
 }
 
 // A line of the grid.
-fn put_row(line: &Partition, cells: &[Laurent], out: &mut Vec<u8>) -> Result<(), AllocError>
-    ensures text { OnOk result (out.new.items ≡ out.old.items ++ tex_row_text (line.now, cells.now)) }
+fn put_row(line: &Partition, cells: Row<'_>, out: &mut Vec<u8>) -> Result<(), AllocError>
+    ensures text { OnOk result (out.new.items ≡ out.old.items ++ tex_row_text (line.now, cells.entry)) }
     ensures kept { OnErr result (take (length out.old.items) out.new.items ≡ out.old.items) }
 {
     put_heading(line, out)?;
@@ -102,8 +102,8 @@ fn put_row(line: &Partition, cells: &[Laurent], out: &mut Vec<u8>) -> Result<(),
     out.extend_from_slice(b" \\\\\n")
 }
 
-fn put_cells(cells: &[Laurent], out: &mut Vec<u8>) -> Result<(), AllocError>
-    ensures text { OnOk result (out.new.items ≡ out.old.items ++ flat_map tex_cell_text cells.now) }
+fn put_cells(cells: Row<'_>, out: &mut Vec<u8>) -> Result<(), AllocError>
+    ensures text { OnOk result (out.new.items ≡ out.old.items ++ flat_map tex_cell_text cells.entry) }
     ensures kept { OnErr result (take (length out.old.items) out.new.items ≡ out.old.items) }
 {
     for cell in cells {

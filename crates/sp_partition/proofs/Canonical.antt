@@ -198,15 +198,18 @@ inner_whole (c ∷ text) h =
 
 -- ---- what a text is read as
 
+-- A dash is read as the empty partition.
 pub dash_read : (text : List ℕ) → text ≡ codes "-" → partition_of text ≡ Some []
 unfolding partition_of
 dash_read text e = subst (λ t. partition_of t ≡ Some []) (sym e) refl
 
+-- Any other text is read as a list.
 pub list_read : (text : List ℕ) → (text ≡ codes "-" → ⊥) → partition_of text ≡ list_of (inner text)
 unfolding partition_of
 list_read text n = cond-false (pointwise nat_eq text (codes "-")) (Some []) (list_of (inner text))
     (false_from_ne_true (pointwise nat_eq text (codes "-")) (λ t. n (equal_lists text (codes "-") t)))
 
+-- The items of the canonical text are the parts.
 pub reads_text : (parts : List ℕ) → IsPartition parts → degree parts < 2 ^ 64 →
     partition_of (partition_text parts) ≡ Some parts
 unfolding partition_text
@@ -226,10 +229,12 @@ reads_text (p ∷ parts) h small =
 
 -- ---- as the contract says it
 
+-- The canonical text is read as its partition.
 pub printed : (text parts : List ℕ) → IsPartition parts → degree parts < 2 ^ 64 → text ≡ partition_text parts →
     partition_of text ≡ Some parts
 printed text parts h small e = ap partition_of e ∙ reads_text parts h small
 
+-- So the answer is the partition, where there is room for it.
 pub canonical : (text parts : List ℕ) (r : Result (List ℕ) NotPartition) → r ≡ parsed (partition_of text) →
     IsHeld parts → text ≡ partition_text parts → r ≡ Ok parts
 canonical text parts r is h e =

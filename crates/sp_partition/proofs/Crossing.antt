@@ -27,6 +27,7 @@ sum_within k parts = sum_by-take-le (λ x. x) parts k
 abbrev pub StaysAbove : ℕ → List ℕ → List ℕ → Type 0
 StaysAbove n upper lower = (k : ℕ) → k ≤ n → sum (take k lower) ≤ sum (take k upper)
 
+-- One initial sum more.
 pub above_next : (n : ℕ) (upper lower : List ℕ) → StaysAbove n upper lower →
     sum (take (n + 1) lower) ≤ sum (take (n + 1) upper) → StaysAbove (n + 1) upper lower
 above_next n upper lower before next k h = at (le_or_lt k n)
@@ -69,6 +70,7 @@ pub record Turn (upper_sum lower_sum part other k : ℕ) (upper lower : List ℕ
   pub upper_next : upper_sum + part ≡ sum (take (k + 1) upper)
   pub lower_next : lower_sum + other ≡ sum (take (k + 1) lower)
 
+-- The parts at one place add to the sums so far.
 pub turn_of : (upper_sum lower_sum part other k : ℕ) (upper lower : List ℕ) →
     (k < length upper) × (k < length lower) × ((d : ℕ) → part ≡ get_or upper k d)
     × ((d : ℕ) → other ≡ get_or lower k d) →

@@ -12,6 +12,7 @@ use Rattle.sp_partition.specs.Padded.{IsPadded, padded}
 use Rattle.sp_partition.specs.declared.TheConstants.{CAPACITY}
 use Rattle.sp_partition.proofs.Holding.{Holds, fields_hold, few_parts, holds_padded, holds_view}
 
+-- A run behind adds its parts to the degree.
 pub degree-run : (parts : List ℕ) (part times : ℕ) →
     degree (parts ++ replicate times part) ≡ degree parts + times * part
 degree-run parts part times =
@@ -53,6 +54,7 @@ written_array now part times =
     less : (l t n : ℕ) → n ≡ l + t → CAPACITY - l - t ≡ CAPACITY - n
     less l t n e = omega arith
 
+-- The fields once the run stands behind, where there is room.
 pub extends : (degree_is count : ℕ) (array now : List ℕ) (part times : ℕ) → IsPadded degree_is count array →
     take count array ≡ now →
     degree_is + times * part ≤ CAPACITY →

@@ -10,6 +10,7 @@ pub record FallsTo (most count : ℕ) (parts : List ℕ) : Type 0 where
   pub descending : (k : ℕ) → k + 1 < count → slice_index parts (k + 1) ≤ slice_index parts k
   pub last : 0 < count → most ≡ slice_index parts (count - 1)
 
+-- Where it has come to the end, the parts are those of a partition.
 pub falls_whole : (most count : ℕ) (parts : List ℕ) → length parts ≤ count → FallsTo most count parts →
     IsPartition parts
 falls_whole most count parts all h = record {

@@ -24,6 +24,7 @@ falls_head : (p : ℕ) (parts : List ℕ) → falls (p ∷ parts) ≡ true → s
 falls_head p [] h = omega arith
 falls_head p (q ∷ parts) h = leb-true q p (and_parts (nat_le q p) (falls (q ∷ parts)) h).0
 
+-- The parts of a partition pass the test.
 pub falls_partition : (parts : List ℕ) → IsPartition parts → falls parts ≡ true
 falls_partition [] h = refl
 falls_partition (p ∷ []) h = refl
@@ -31,6 +32,7 @@ falls_partition (p ∷ q ∷ parts) h =
     and_from (nat_le q p) (falls (q ∷ parts)) (le-leb q p (h.descending 0))
     (falls_partition (q ∷ parts) (IsPartition-tail p (q ∷ parts) h))
 
+-- In parts that pass, the next is at most the one before it.
 pub falls_step : (before : List ℕ) (q p : ℕ) (more : List ℕ) → falls ((before ++ q ∷ []) ++ p ∷ more) ≡ true → p ≤ q
 falls_step [] q p more h = falls_head q (p ∷ more) h
 falls_step (x ∷ before) q p more h = falls_step before q p more (falls_tail x ((before ++ q ∷ []) ++ p ∷ more) h)

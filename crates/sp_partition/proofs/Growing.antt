@@ -1,40 +1,15 @@
 -- One node more: the fields.
 use Rattle.std.proofs.Common.{◌≡◌, ◌≢◌, ℕ, zero, suc, ◌+◌, ◌-◌, ◌<◌, ◌≤◌, max, true, List, [], ◌∷◌, ◌++◌, take}
-use Rattle.std.proofs.Common.{length, replicate, slice_index, slice_set, refl, sym, ◌∙◌, ap, subst, arith, ◌⊎◌, inl}
-use Rattle.std.proofs.Common.{inr}
-use Rattle.std.proofs.lemmas.Bool.Decides.{nat_tests}
-use Rattle.std.proofs.lemmas.List.Sums.{sum_by-cons}
+use Rattle.std.proofs.Common.{length, replicate, slice_index, slice_set, sym, ◌∙◌, ap, subst, arith}
 use Rattle.sp_defs.specs.Partition.{degree, part}
 use Rattle.sp_defs.specs.Node.{is_addable}
 use Rattle.sp_defs.specs.Signature.{grow}
-use Rattle.sp_lists.proofs.Elements.{le_or_lt}
-use Rattle.sp_shapes.proofs.Regular.{index_short}
-use Rattle.sp_shapes.proofs.Grow.{Room, IsPartition-grow}
+use Rattle.sp_shapes.proofs.Grow.{Room, IsPartition-grow, degree-grow, length-grow}
+use Rattle.sp_shapes.proofs.Corners.{addable_least, addable_room}
 use Rattle.sp_partition.specs.Held.{IsHeld}
 use Rattle.sp_partition.specs.Padded.{IsPadded}
 use Rattle.sp_partition.specs.declared.TheConstants.{CAPACITY}
 use Rattle.sp_partition.proofs.Holding.{Holds, fields_hold, few_parts, holds_padded, holds_view}
-
-pub degree-grow : (k : ℕ) (parts : List ℕ) → k ≤ length parts → degree (grow k parts) ≡ degree parts + 1
-unfolding grow
-degree-grow zero [] h = refl
-degree-grow zero (p ∷ parts) h = omega (arith, sum_by-cons (λ x. x) p parts, sum_by-cons (λ x. x) (suc p) parts)
-degree-grow (suc k) [] h = absurd (omega arith)
-degree-grow (suc k) (p ∷ parts) h =
-    omega (
-      arith,
-      sum_by-cons (λ x. x) p parts,
-      sum_by-cons (λ x. x) p (grow k parts),
-      degree-grow k parts
-          (omega arith),
-    )
-
-pub length-grow : (k : ℕ) (parts : List ℕ) → k ≤ length parts → length (grow k parts) ≡ max (length parts) (k + 1)
-unfolding grow
-length-grow zero [] h = refl
-length-grow zero (p ∷ parts) h = omega arith
-length-grow (suc k) [] h = absurd (omega arith)
-length-grow (suc k) (p ∷ parts) h = omega (arith, length-grow k parts (omega arith))
 
 less_one : (m n : ℕ) → suc m - suc n ≡ m - n
 less_one m n = omega arith
@@ -62,28 +37,6 @@ set-grow (suc n) (suc k) [] h lt = absurd (omega arith)
 set-grow (suc n) (suc k) (p ∷ parts) h lt = simp less_one
     (ap (λ xs. p ∷ xs) (set-grow n k parts (omega arith) (omega arith)))
 
--- ---- the row that grows
-
-addable_row : (parts : List ℕ) (row : ℕ) → is_addable parts (row, part parts row + 1) ≡ true → 0 < row
-addable_row parts row h = grind (arith, nat_tests)
-
-addable_less : (parts : List ℕ) (row : ℕ) → is_addable parts (row, part parts row + 1) ≡ true → 1 < row →
-    part parts row < part parts (row - 1)
-addable_less parts row h lt = grind (arith, nat_tests)
-
-addable_room : (parts : List ℕ) (row : ℕ) → is_addable parts (row, part parts row + 1) ≡ true → Room parts (row - 1)
-addable_room parts row h = record {
-  there = there (le_or_lt row 1);
-  less = λ lt. addable_less parts row h
-      (omega arith);
-}
-  where
-    there : (row ≤ 1) ⊎ (1 < row) → row - 1 ≤ length parts
-    there (inl le) = omega arith
-    there (inr lt) =
-        let less : slice_index parts (row - 1) < slice_index parts (row - 1 - 1) = addable_less parts row h lt in
-        omega (arith, index_short parts (row - 1 - 1) (omega arith))
-
 -- What the fields are once the row has one node more, where they showed the parts `now`.
 pub record Grows (degree_is count : ℕ) (array now : List ℕ) (row : ℕ) : Type 0 where
   pub small : degree now < CAPACITY
@@ -109,19 +62,19 @@ grows_held degree_is count array now row is h adds below = record {
     small = let most : degree now ≤ CAPACITY = h.small in let e : degree_is ≡ degree now = is.total in omega arith
 
     more : degree (grow (row - 1) now) ≡ degree now + 1
-    more = degree-grow (row - 1) now room.there
+    more = degree-grow now (row - 1) room.there
 
     held : IsHeld (grow (row - 1) now)
     held = record { partition = IsPartition-grow now (row - 1) h.partition room; small = omega (arith, more, small) }
 
     longer : length (grow (row - 1) now) ≡ max (length now) (row - 1 + 1)
-    longer = length-grow (row - 1) now room.there
+    longer = length-grow now (row - 1) room.there
 
     place : row - 1 < CAPACITY
     place = omega (arith, few_parts (grow (row - 1) now) held, longer)
 
     back : row ≡ row - 1 + 1
-    back = omega (arith, addable_row now row adds)
+    back = omega (arith, addable_least now row (part now row + 1) adds)
 
     holds : Holds (grow (row - 1) now) (degree_is + 1) (max count row)
         (slice_set array (row - 1) (slice_index array (row - 1) + 1))
@@ -132,6 +85,7 @@ grows_held degree_is count array now row is h adds below = record {
           ∙ set-grow CAPACITY (row - 1) now room.there place;
     }
 
+-- The fields after a node more, from those before it.
 pub grows : (degree_is count : ℕ) (array now : List ℕ) (row : ℕ) → IsPadded degree_is count array →
     take count array ≡ now →
     true ≡ is_addable now (row, part now row + 1) → degree_is ≢ CAPACITY → Grows degree_is count array now row

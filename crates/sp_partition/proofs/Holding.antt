@@ -7,9 +7,11 @@ use Rattle.sp_partition.specs.Held.{IsHeld}
 use Rattle.sp_partition.specs.Padded.{IsPadded, padded, padded-count, padded-array}
 use Rattle.sp_partition.specs.declared.TheConstants.{CAPACITY}
 
+-- There are no more parts than there is room for.
 pub few_parts : (parts : List ℕ) → IsHeld parts → length parts ≤ CAPACITY
 few_parts parts h = omega (arith, length-degree parts h.partition, h.small)
 
+-- The parts are in front of the padded array.
 pub take-padded : (parts : List ℕ) → take (length parts) (padded parts) ≡ parts
 take-padded parts = grind (arith, common_steps)
 
@@ -29,6 +31,7 @@ pub record Holds (parts : List ℕ) (degree_is count : ℕ) (array : List ℕ) :
   pub count_is : count ≡ length parts
   pub array_is : array ≡ padded parts
 
+-- Fields that meet the invariant hold what they show.
 pub fields_hold : (degree_is count : ℕ) (array : List ℕ) → IsPadded degree_is count array →
     Holds (take count array) degree_is count array
 fields_hold degree_is count array is =
@@ -48,6 +51,7 @@ holds_padded parts degree_is count array h is =
     (subst (λ c. IsPadded (degree parts) c array) (sym is.count_is)
     (subst (λ xs. IsPadded (degree parts) (length parts) xs) (sym is.array_is) (held_fields parts h)))
 
+-- Fields that hold a partition show it.
 pub holds_view : (parts : List ℕ) (degree_is count : ℕ) (array : List ℕ) → Holds parts degree_is count array →
     take count array ≡ parts
 holds_view parts degree_is count array is =

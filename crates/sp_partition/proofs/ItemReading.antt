@@ -2,10 +2,10 @@
 use Rattle.std.proofs.Common.{◌≡◌, ◌≢◌, ℕ, ◌+◌, ◌<◌, ◌≤◌, min, Bool, true, false, not, ◌||◌, nat_eq, nat_lt, cond}
 use Rattle.std.proofs.Common.{List, [], ◌∷◌, ◌++◌, take, drop, length, replicate, refl, sym, ◌∙◌, ap, arith, ◌⊎◌}
 use Rattle.std.proofs.Common.{inl, inr, Option, Some, None, eqb-true, ltb-true, lt-ltb, ne_eqb}
-use Rattle.std.specs.Char.{is_digit, digit_value}
+use Rattle.std.specs.Char.{is_digit}
 use Rattle.std.specs.List.{list_all, join_with_byte}
 use Rattle.std.specs.Option.{option_map, option_and_then}
-use Rattle.std.specs.Str.Parse.{AllDigits, digits_value}
+use Rattle.std.specs.Str.Parse.{digits_value}
 use Rattle.std.proofs.lemmas.Bool.{and_from, and_parts, or_right, or_cases, not_from_false, not-true, eqb-false}
 use Rattle.std.proofs.lemmas.Bool.{cases_Bool}
 use Rattle.std.proofs.lemmas.List.Splits.{join_with_byte-slice_split, length-slice_split}
@@ -13,28 +13,19 @@ use Rattle.sp_partition.specs.Reading.{is_number, number_of, positive_of, cut, i
 use Rattle.sp_partition.specs.Pieces.{IsNumber, StandsAt, IsItemOf, rest_of}
 use Rattle.sp_partition.proofs.Marks.{digits_free_above, cut_free, cut_mark, pieces_left, first_piece, rest_some}
 use Rattle.sp_partition.proofs.Marks.{split_there, take_whole}
-use Rattle.sp_partition.proofs.Numbers.{number_positive}
+use Rattle.sp_partition.proofs.Numbers.{number_positive, digits_pass, passing_digits}
 
 -- ---- numbers
 
+-- A number is the value of its digits.
 pub number_self : (text : List ℕ) (n : ℕ) → IsNumber text n → IsNumber text (digits_value 10 text)
 number_self text n h = record { digits = h.digits; first = h.first; value = refl }
-
-all_tested : (ds : List ℕ) → AllDigits 10 ds → list_all (λ c. is_digit c 10) ds ≡ true
-all_tested [] h = refl
-all_tested (d ∷ ds) (h, hs) =
-    and_from (is_digit d 10) (list_all (λ c. is_digit c 10) ds) (lt-ltb (digit_value d) 10 h) (all_tested ds hs)
-
-tested_all : (ds : List ℕ) → list_all (λ c. is_digit c 10) ds ≡ true → AllDigits 10 ds
-tested_all [] h = tt
-tested_all (d ∷ ds) h =
-    let both = and_parts (is_digit d 10) (list_all (λ c. is_digit c 10) ds) h in
-    (ltb-true (digit_value d) 10 both.0, tested_all ds both.1)
 
 -- What comes of the test whether a word is a number, and of the one whether the number is of at least 1.
 abbrev pub tested : Bool → ℕ → Option ℕ
 tested b value = option_and_then (λ n. cond (nat_lt 0 n) (Some n) None) (cond b (Some value) None)
 
+-- A number is read as its value.
 pub positive_some : (text : List ℕ) (n : ℕ) → IsNumber text n → positive_of text ≡ Some n
 unfolding number_of
 positive_some [] n h = absurd (let some = h.digits.0 in omega arith)
@@ -45,7 +36,7 @@ positive_some (d ∷ ds) n h =
   where
     test : is_number (d ∷ ds) ≡ true
     test = and_from (list_all (λ c. is_digit c 10) (d ∷ ds)) (nat_eq (length ds) 0 || not (nat_eq d 48))
-        (all_tested (d ∷ ds) h.digits.1)
+        (digits_pass (d ∷ ds) h.digits.1)
         (or_right (nat_eq (length ds) 0) (not (nat_eq d 48)) (not_from_false (nat_eq d 48) (ne_eqb d 48 h.first)))
 
 lone_zero : (ds : List ℕ) → length ds ≡ 0 → digits_value 10 (48 ∷ ds) ≡ 0
@@ -63,6 +54,7 @@ no_zero d ds t some e = settle (or_cases (nat_eq (length ds) 0) (not (nat_eq d 4
         omega (arith, zero_is, some)
     settle (inr other) = eqb-false d 48 (not-true (nat_eq d 48) other) e
 
+-- What is read as a value is a number.
 pub positive_number : (text : List ℕ) (n : ℕ) → positive_of text ≡ Some n → IsNumber text n
 unfolding number_of
 positive_number [] n e = cc
@@ -83,11 +75,12 @@ positive_number (d ∷ ds) n e = settle (cases_Bool (is_number (d ∷ ds))) (cas
         let both = and_parts (list_all (λ c. is_digit c 10) (d ∷ ds)) (nat_eq (length ds) 0 || not (nat_eq d 48))
         test in
         record {
-          digits = (omega arith, tested_all (d ∷ ds) both.0);
+          digits = (omega arith, passing_digits (d ∷ ds) both.0);
           first = no_zero d ds both.1 (ltb-true 0 value some);
           value = cc;
         }
 
+-- What is no number is not read.
 pub positive_none : (text : List ℕ) → (IsNumber text (digits_value 10 text) → ⊥) → positive_of text ≡ None
 positive_none text no_number = settle (positive_of text) refl
   where
@@ -103,6 +96,7 @@ plain_item text p h =
     ap item_of (cut_free 94 text (digits_free_above 94 text (omega arith) h.digits.1))
     ∙ ap (option_map (λ q. q ∷ [])) (positive_some text p h)
 
+-- A part with an exponent is read as so many parts.
 pub power_item : (base exponent : List ℕ) (p m : ℕ) → IsNumber base p → IsNumber exponent m →
     item_of (cut 94 (base ++ 94 ∷ exponent)) ≡ Some (replicate m p)
 power_item base exponent p m h k =
@@ -136,6 +130,7 @@ exponent_none base exponent e = settle (cut 94 exponent) refl
 
 -- ---- at the first `^`, which stands at `end`
 
+-- No item, where the part is no number.
 pub item_no_part : (text : List ℕ) (end : ℕ) → StandsAt 94 text end →
     (IsNumber (take end text) (digits_value 10 (take end text)) → ⊥) → item_of (cut 94 text) ≡ None
 item_no_part text end h no_number =
@@ -150,6 +145,7 @@ item_no_count text exponent end h lt e no_number =
     ∙ ap (λ o. take end text ∷ pieces_left 94 o) (rest_some text end lt ∙ ap Some (sym e)))
     ∙ exponent_none (take end text) exponent (positive_none exponent no_number)
 
+-- A part alone is an item.
 pub item_once : (text : List ℕ) (n end : ℕ) → length text ≤ end → IsNumber (take end text) n →
     IsItemOf text (take end text) 1
 item_once text n end le h = record {
@@ -163,6 +159,7 @@ item_once text n end le h = record {
     self : IsNumber (take end text) (digits_value 10 (take end text))
     self = number_self (take end text) n h
 
+-- A part with an exponent is an item.
 pub item_often : (text exponent : List ℕ) (p m times end : ℕ) → StandsAt 94 text end → end < length text →
     exponent ≡ drop (end + 1) text → IsNumber (take end text) p → IsNumber exponent m →
     times ≡ min (digits_value 10 exponent) 255 → IsItemOf text (take end text) times

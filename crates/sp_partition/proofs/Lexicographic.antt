@@ -29,5 +29,6 @@ sums_above (x ∷ upper) (y ∷ lower) h s e = decide (nat_lt x y) refl (nat_eq 
     decide false l true q later o = later (eqb-true x y q) o
     decide false l false q later o = cc
 
+-- A partition that dominates another is not before it.
 pub not_before : (upper lower : List ℕ) → IsPartition lower → Dominates upper lower → compare upper lower ≢ Less
 not_before upper lower h d = sums_above upper lower h d.sums

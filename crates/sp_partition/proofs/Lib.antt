@@ -16,6 +16,9 @@ pub mod Rising
 pub mod Ranks
 pub mod Listings
 pub mod Crossing
-pub mod Conjugates
-pub mod Involution
+pub mod ColumnLengths
 pub mod Lexicographic
+pub mod Weights
+pub mod EightsOrder
+pub mod WithNode
+pub mod PaddedOrder

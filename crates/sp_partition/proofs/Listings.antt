@@ -10,7 +10,7 @@ use Rattle.std.proofs.lemmas.List.Concat.{flat_map-cons}
 use Rattle.sp_defs.specs.Partition.{IsPartition, degree, is_regular, partitions, partitions_within, regulars}
 use Rattle.sp_lists.proofs.Elements.{all_append}
 use Rattle.sp_lists.proofs.FlatMaps.{flat_map-range_more}
-use Rattle.sp_shapes.proofs.Order.{all_mono}
+use Rattle.sp_lists.proofs.Places.{all_weaken}
 use Rattle.sp_partition.proofs.Extending.{degree-run}
 use Rattle.sp_shapes.proofs.Diagram.{IsPartition-tail, IsPartition-head}
 use Rattle.sp_shapes.proofs.Listing.{IsPartition-nil, IsPartition-cons}
@@ -26,6 +26,7 @@ below_first : (x : ℕ) (front : List ℕ) (k p : ℕ) → p ≤ x → slice_ind
 below_first x [] k p h first = below_run x k p h
 below_first x (y ∷ front) k p h first = first
 
+-- A run behind parts that are as great makes a partition.
 pub run_after : (front : List ℕ) (k p : ℕ) → IsPartition front → 0 < p → AllByRecursion (λ q. p ≤ q) front →
     IsPartition (front ++ replicate k p)
 run_after [] zero p h hp all = IsPartition-nil
@@ -39,11 +40,12 @@ all_run : (P : ℕ → Type 0) (k p : ℕ) → P p → AllByRecursion P (replica
 all_run P zero p h = tt
 all_run P (suc k) p h = (h, all_run P k p h)
 
+-- The parts with the run are as great as the next smaller part.
 pub least_after : (front : List ℕ) (k p : ℕ) → AllByRecursion (λ q. p ≤ q) front →
     AllByRecursion (λ q. p - 1 ≤ q) (front ++ replicate k p)
 least_after front k p all =
     all_append (λ q. p - 1 ≤ q) front (replicate k p)
-    (all_mono (λ q. p ≤ q) (λ q. p - 1 ≤ q) front (λ q h. omega (arith, h)) all)
+    (all_weaken (λ q. p ≤ q) (λ q. p - 1 ≤ q) front (λ q h. omega (arith, h)) all)
     (all_run (λ q. p - 1 ≤ q) k p (omega arith))
 
 -- where so many parts more are some of the rest, there is room for what is left of it
@@ -59,6 +61,7 @@ room_after front longer k p rest room is few h =
     fits : (d l part rest : ℕ) → l ≡ d + part → part ≤ rest → d + rest ≤ room → l + (rest - part) ≤ room
     fits d l part rest e w h = omega arith
 
+-- The value that a call answered is the one that its contract names.
 pub unwrapped : (r : Option (List ℕ)) (P : Type 0) (x v : List ℕ) → SomeIff r P v → r ≡ Some x → x ≡ v
 unwrapped r P x v h is = (subst (λ o. SomeIff o P v) is h).1
 
@@ -91,10 +94,12 @@ block most rest k = behind (replicate k most) (partitions_within (most - 1) (res
 abbrev pub blocks : List ℕ → ℕ → ℕ → ℕ → List (List ℕ)
 blocks front most rest times = flat_map (λ k. behind front (block most rest k)) (range_with_len 0 times)
 
+-- Before the first round nothing is added.
 pub blocks_none : (before : List (List ℕ)) (front : List ℕ) (most rest : ℕ) →
     before ≡ before ++ blocks front most rest 0
 blocks_none before front most rest = sym (append-nil before)
 
+-- One round adds the block with so many parts.
 pub blocks_more : (initial before after : List (List ℕ)) (front longer : List ℕ) (most rest times : ℕ) →
     before ≡ initial ++ blocks front most rest times → longer ≡ front ++ replicate times most →
     after ≡ before ++ behind longer (partitions_within (most - 1) (rest - times * most)) →
@@ -121,6 +126,7 @@ within_blocks (suc most) rest h =
     one_less : (most : ℕ) → most ≡ suc most - 1
     one_less most = omega arith
 
+-- All rounds add all partitions within the bound.
 pub blocks_all : (front : List ℕ) (most rest : ℕ) → 0 < most →
     blocks front most rest (rest / most + 1) ≡ behind front (partitions_within most rest)
 blocks_all front most rest h =
@@ -129,6 +135,7 @@ blocks_all front most rest h =
 
 -- ---- with no part left
 
+-- Of nothing left there is the empty partition alone.
 pub within_nothing : (front : List ℕ) (most rest : ℕ) → most ≡ 0 → rest ≡ 0 →
     front ∷ [] ≡ behind front (partitions_within most rest)
 unfolding partitions_within
@@ -136,6 +143,7 @@ within_nothing front zero zero h e = ap (λ xs. xs ∷ []) (sym (append-nil fron
 within_nothing front zero (suc rest) h e = absurd (omega arith)
 within_nothing front (suc most) rest h e = absurd (omega arith)
 
+-- With no part left there is none of anything else.
 pub within_none : (before : List (List ℕ)) (front : List ℕ) (most rest : ℕ) → most ≡ 0 → 0 < rest →
     before ≡ before ++ behind front (partitions_within most rest)
 unfolding partitions_within
@@ -149,10 +157,12 @@ within_none before front (suc most) rest h e = absurd (omega arith)
 
 -- ---- the whole list
 
+-- Behind no parts they are the partitions of n.
 pub partitions_behind : (front : List ℕ) (n : ℕ) → front ≡ [] → behind front (partitions_within n n) ≡ partitions n
 unfolding partitions
 partitions_behind front n is = ap (λ xs. behind xs (partitions_within n n)) is ∙ map-id (partitions_within n n)
 
+-- Those that pass the test are the e-regular ones.
 pub regulars_from : (e n : ℕ) → filter (is_regular e) (partitions n) ≡ regulars e n
 unfolding regulars
 regulars_from e n = refl

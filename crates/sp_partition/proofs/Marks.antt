@@ -17,15 +17,18 @@ use Rattle.sp_partition.specs.Pieces.{StandsAt, rest_of}
 abbrev pub Free : ℕ → List ℕ → Type 0
 Free mark text = AllByRecursion (λ c. c ≢ mark) text
 
+-- Two texts without the mark, joined.
 pub free_append : (mark : ℕ) (xs ys : List ℕ) → Free mark xs → Free mark ys → Free mark (xs ++ ys)
 free_append mark [] ys h k = k
 free_append mark (x ∷ xs) ys (h, hs) k = (h, free_append mark xs ys hs k)
 
+-- Digits are without a mark that is less than them.
 pub digits_free : (mark : ℕ) (ds : List ℕ) → mark < 48 → AllDigits 10 ds → Free mark ds
 digits_free mark [] low h = tt
 digits_free mark (d ∷ ds) low (h, hs) =
     (let range = digit_from_value d h in (λ e. omega arith), digits_free mark ds low hs)
 
+-- Digits are without a mark that is greater.
 pub digits_free_above : (mark : ℕ) (ds : List ℕ) → 57 < mark → AllDigits 10 ds → Free mark ds
 digits_free_above mark [] high h = tt
 digits_free_above mark (d ∷ ds) high (h, hs) =
@@ -33,12 +36,14 @@ digits_free_above mark (d ∷ ds) high (h, hs) =
 
 -- ---- the pieces
 
+-- A text without the mark is one piece.
 pub cut_free : (mark : ℕ) (text : List ℕ) → Free mark text → cut mark text ≡ text ∷ []
 cut_free mark [] h = refl
 cut_free mark (c ∷ text) (h, hs) =
     cond-false (nat_eq c mark) ([] ∷ cut mark text) (onto_first c (cut mark text)) (ne_eqb c mark h)
     ∙ ap (onto_first c) (cut_free mark text hs)
 
+-- A text is cut at its first mark.
 pub cut_mark : (mark : ℕ) (xs ys : List ℕ) → Free mark xs → cut mark (xs ++ mark ∷ ys) ≡ xs ∷ cut mark ys
 cut_mark mark [] ys h =
     cond-true (nat_eq mark mark) ([] ∷ cut mark ys) (onto_first mark (cut mark ys)) (eq-eqb mark mark refl)
@@ -54,12 +59,14 @@ pieces_left mark (Some rest) = cut mark rest
 
 -- ---- where the mark stands first
 
+-- A text is without the mark where no place before has it.
 pub free_take : (mark : ℕ) (text : List ℕ) (end : ℕ) → ((k : ℕ) → k < end → slice_index text k ≢ mark) →
     Free mark (take end text)
 free_take mark text zero h = tt
 free_take mark [] (suc end) h = tt
 free_take mark (c ∷ text) (suc end) h = (h 0 (omega arith), free_take mark text end (λ k lt. h (suc k) (omega arith)))
 
+-- The text before the mark, the mark, and the text behind it.
 pub split_there : (mark : ℕ) (text : List ℕ) (end : ℕ) → end < length text → slice_index text end ≡ mark →
     text ≡ take end text ++ mark ∷ drop (end + 1) text
 split_there mark text end lt is =
@@ -69,9 +76,11 @@ split_there mark text end lt is =
     next : suc end ≡ end + 1
     next = omega arith
 
+-- The text is without the mark before its first place.
 pub free_before : (mark : ℕ) (text : List ℕ) (end : ℕ) → StandsAt mark text end → Free mark (take end text)
 free_before mark text end h = free_take mark text end h.before
 
+-- All of a text, where that is as long.
 pub take_whole : (text : List ℕ) (end : ℕ) → length text ≤ end → take end text ≡ text
 take_whole text end h = grind (arith, common_steps)
 
@@ -79,6 +88,7 @@ take_whole text end h = grind (arith, common_steps)
 pub rest_whole : (text : List ℕ) (n : ℕ) → take (length text - n) (drop n text) ≡ drop n text
 rest_whole text n = take_whole (drop n text) (length text - n) (simp length-drop (omega arith))
 
+-- Behind the mark there is a text.
 pub rest_some : (text : List ℕ) (end : ℕ) → end < length text → rest_of text end ≡ Some (drop (end + 1) text)
 rest_some text end lt = cond-false (nat_le (length text) end) None (Some (drop (end + 1) text))
     (lt-leb (length text) end lt)

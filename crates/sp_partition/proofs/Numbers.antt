@@ -3,9 +3,10 @@ use Rattle.std.proofs.Common.{◌≡◌, ◌≢◌, ℕ, suc, ◌+◌, ◌-◌, 
 use Rattle.std.proofs.Common.{List, [], ◌∷◌, length, slice_index, refl, sym, ◌∙◌, ap, ap₂, subst, arith, ◌⊎◌, inl}
 use Rattle.std.proofs.Common.{inr, mul-le-mul_right, eqb-true, ltb-true, lt-ltb, true≢false, min, take}
 use native.Mathlib.Nat.{pow-succ', pow-le-pow_right, one-le-pow}
-use Rattle.std.specs.Char.{digit_value}
+use Rattle.std.specs.Char.{digit_value, is_digit}
+use Rattle.std.specs.List.{list_all}
 use Rattle.std.specs.Str.Parse.{AllDigits, digits_value, digits_value_after}
-use Rattle.std.proofs.lemmas.Bool.{eqb-false, ltb-false}
+use Rattle.std.proofs.lemmas.Bool.{eqb-false, ltb-false, and_from, and_parts}
 use Rattle.std.proofs.lemmas.Int.Digits.{digits_value-lt, digits_value_more}
 use Rattle.std.proofs.lemmas.Str.{digit_value_digit}
 use Rattle.std.proofs.lemmas.Str.Parse.{digit_from_value, digit_at}
@@ -22,6 +23,7 @@ after_is n (d ∷ ds) =
     ring : (n d p v : ℕ) → (n * 10 + d) * p + v ≡ n * (10 * p) + ((0 + d) * p + v)
     ring n d p v = omega arith
 
+-- The first digit has the weight of the power that follows from its place.
 pub value-cons : (d : ℕ) (ds : List ℕ) → digits_value 10 (d ∷ ds) ≡ digit_value d * 10 ^ length ds + digits_value 10 ds
 value-cons d ds = after_is (0 + digit_value d) ds
     ∙ ap (λ n. n * 10 ^ length ds + digits_value 10 ds) (alone (digit_value d))
@@ -37,7 +39,8 @@ digits_less [] (y ∷ ys) = true
 digits_less (x ∷ xs) [] = false
 digits_less (x ∷ xs) (y ∷ ys) = cond (nat_eq x y) (digits_less xs ys) (nat_lt x y)
 
-heavier : (x y p v w : ℕ) → x < y → v < p → x * p + v < y * p + w
+-- The greater digit at the greatest place decides.
+pub heavier : (x y p v w : ℕ) → x < y → v < p → x * p + v < y * p + w
 heavier x y p v w lt small = omega (arith, mul-le-mul_right p (above x y lt), spread x p)
   where
     above : (x y : ℕ) → x < y → x + 1 ≤ y
@@ -53,6 +56,7 @@ digits_apart x y hx hy lt = omega
 below_power : (xs ys : List ℕ) → length xs ≡ length ys → AllDigits 10 xs → digits_value 10 xs < 10 ^ length ys
 below_power xs ys e h = subst (λ n. digits_value 10 xs < 10 ^ n) e (digits_value-lt 10 xs h)
 
+-- Of one length, numbers stand as their digits do.
 pub less_value : (xs ys : List ℕ) → length xs ≡ length ys → AllDigits 10 xs → AllDigits 10 ys →
     (digits_less xs ys ≡ true → digits_value 10 xs < digits_value 10 ys) ×
     (digits_value 10 xs < digits_value 10 ys → digits_less xs ys ≡ true)
@@ -117,6 +121,7 @@ first_digit d ds n h =
 
 -- ---- of two lengths: the longer is the greater
 
+-- A number with more digits is the greater.
 pub longer_value : (xs ys : List ℕ) (m n : ℕ) → IsNumber xs m → IsNumber ys n → length xs < length ys →
     digits_value 10 xs < digits_value 10 ys
 longer_value xs [] m n hx hy lt = absurd (omega arith)
@@ -137,6 +142,7 @@ longer_value xs (y ∷ ys) m n hx hy lt =
     one : (p : ℕ) → 1 * p ≡ p
     one p = omega arith
 
+-- A number without leading zeros is not 0.
 pub number_positive : (text : List ℕ) (n : ℕ) → IsNumber text n → 0 < n
 number_positive [] n h = absurd (let some = h.digits.0 in omega arith)
 number_positive (d ∷ ds) n h =
@@ -172,20 +178,44 @@ shorter_less xs ys m n hx hy ne = (
 
 -- ---- the number, up to a limit
 
-pub next_value : (ds : List ℕ) (i value tens whole : ℕ) → AllDigits 10 ds → i < length ds →
-    value ≡ min (digits_value 10 (take i ds)) 255 → tens ≡ min (value * 10) 255 →
-    whole ≡ min (tens + (slice_index ds i - 48)) 255 →
-    whole ≡ min (digits_value 10 (take (i + 1) ds)) 255
-next_value ds i value tens whole h lt is is_tens is_whole =
+-- With one digit more it is ten times the number so far and the digit, and no more than the limit.
+pub next_up_to : (limit : ℕ) (ds : List ℕ) (i value tens whole : ℕ) → AllDigits 10 ds → i < length ds →
+    value ≡ min (digits_value 10 (take i ds)) limit → tens ≡ min (value * 10) limit →
+    whole ≡ min (tens + (slice_index ds i - 48)) limit →
+    whole ≡ min (digits_value 10 (take (i + 1) ds)) limit
+next_up_to limit ds i value tens whole h lt is is_tens is_whole =
     let worth : digit_value (slice_index ds i) + 48 ≡ slice_index ds i = digit_value_digit (slice_index ds i)
     (digit_at ds i h lt) in
     omega (arith, digits_value_more 10 ds i lt)
 
+-- The limit of a byte.
+pub next_value : (ds : List ℕ) (i value tens whole : ℕ) → AllDigits 10 ds → i < length ds →
+    value ≡ min (digits_value 10 (take i ds)) 255 → tens ≡ min (value * 10) 255 →
+    whole ≡ min (tens + (slice_index ds i - 48)) 255 →
+    whole ≡ min (digits_value 10 (take (i + 1) ds)) 255
+next_value = next_up_to 255
+
 -- ---- digits, by place
 
+-- Digits at each place are digits all.
 pub all_digits : (ds : List ℕ) → DigitsAt ds → AllDigits 10 ds
 all_digits [] h = tt
 all_digits (d ∷ ds) h = (small, all_digits ds (λ k lt. h (suc k) (omega arith)))
   where
     small : digit_value d < 10
     small = let range = h 0 (omega arith) in omega (arith, digit_value_digit d range)
+
+-- ---- digits, by test
+
+-- Digits pass the test, and what passes it are digits.
+pub digits_pass : (ds : List ℕ) → AllDigits 10 ds → list_all (λ c. is_digit c 10) ds ≡ true
+digits_pass [] h = refl
+digits_pass (d ∷ ds) (h, hs) =
+    and_from (is_digit d 10) (list_all (λ c. is_digit c 10) ds) (lt-ltb (digit_value d) 10 h) (digits_pass ds hs)
+
+-- What passes the test is digits.
+pub passing_digits : (ds : List ℕ) → list_all (λ c. is_digit c 10) ds ≡ true → AllDigits 10 ds
+passing_digits [] h = tt
+passing_digits (d ∷ ds) h =
+    let both = and_parts (is_digit d 10) (list_all (λ c. is_digit c 10) ds) h in
+    (ltb-true (digit_value d) 10 both.0, passing_digits ds both.1)

@@ -39,6 +39,7 @@ pub record Progress (text : List ℕ) (held last rest : Option (List ℕ)) : Typ
   pub ends : Ends last parts
   pub held_is : held ≡ fitting parts
 
+-- Before the first item nothing is read.
 pub begun : (text : List ℕ) → Progress text (Some []) None (Some text)
 begun text = record {
   parts = [];
@@ -62,6 +63,7 @@ run_partition (suc m) p hp = IsPartition-cons p (replicate m p) hp (low m) (run_
     low zero = omega arith
     low (suc m) = omega arith
 
+-- A run of a smaller part may stand behind.
 pub run_behind : (before : List ℕ) (q m p : ℕ) → IsPartition (before ++ q ∷ []) → 0 < p → p ≤ q →
     IsPartition ((before ++ q ∷ []) ++ replicate m p)
 run_behind [] q m p h hp lt = IsPartition-cons q (replicate m p) (IsPartition-head q [] h) (low m)
@@ -85,6 +87,7 @@ abbrev pub Follows : Option (List ℕ) → ℕ → Type 0
 Follows None p = Unit {0}
 Follows (Some digits) p = p ≤ digits_value 10 digits
 
+-- With the run behind its last part it is a partition.
 pub longer_partition : (last : Option (List ℕ)) (parts : List ℕ) (p m : ℕ) → Ends last parts → IsPartition parts →
     0 < p → Follows last p → IsPartition (parts ++ replicate m p)
 longer_partition None parts p m ends h hp follows = subst (λ xs. IsPartition (xs ++ replicate m p)) (sym ends)
@@ -104,6 +107,7 @@ last_of_run parts (suc m) p h =
 
 -- ---- what is held
 
+-- A number is at most a multiple of it.
 pub factor_le : (a b : ℕ) → 0 < b → a ≤ a * b
 factor_le a b h = omega (arith, mul-le-mul_left a (above b h))
   where
@@ -186,6 +190,7 @@ first_item items part end times stands item =
 list_none : (text : List ℕ) → items_of (cut 44 text) ≡ None → list_of text ≡ None
 list_none text e = ap (option_and_then (λ parts. cond (falls parts) (Some parts) None)) e
 
+-- A piece that is no item makes the text no partition.
 pub no_item : (text items : List ℕ) (held last : Option (List ℕ)) (end : ℕ) → Progress text held last (Some items) →
     StandsAt 44 items end → item_of (cut 94 (take end items)) ≡ None → list_of text ≡ None
 no_item text items held last end so_far stands none =
@@ -203,6 +208,7 @@ rises (Some digits) parts more p (suc m) ends some over =
     over (falls_step ends.1 (digits_value 10 digits) p (replicate m p ++ more)
     (subst (λ xs. falls (xs ++ p ∷ (replicate m p ++ more)) ≡ true) ends.2 t)))
 
+-- So does a part that is greater than the last.
 pub not_under : (text items part : List ℕ) (held last : Option (List ℕ)) (end times : ℕ) →
     Progress text held last (Some items) → StandsAt 44 items end →
     IsItemOf (take end items) part times → (Follows last (digits_value 10 part) → ⊥) → list_of text ≡ None
@@ -220,6 +226,7 @@ not_under text items part held last end times so_far stands item over =
     settle (Some more) = cond-false (falls (so_far.parts ++ (run ++ more))) (Some (so_far.parts ++ (run ++ more))) None
         (rises last so_far.parts more (digits_value 10 part) item.count so_far.ends item.some over)
 
+-- After the item its parts are read as well.
 pub advanced : (text items part : List ℕ) (held last longer : Option (List ℕ)) (end times : ℕ) →
     Progress text held last (Some items) → StandsAt 44 items end →
     IsItemOf (take end items) part times → Follows last (digits_value 10 part) →
@@ -255,16 +262,19 @@ pub left_at : {text : List ℕ} {held last : Option (List ℕ)} {rest left : Opt
     Progress text held last (option_copied rest) → Progress text held last (option_copied left)
 left_at {text} {held} {last} e h = subst (λ r. Progress text held last (option_copied r)) e h
 
+-- What the last digits say of the part, as a fact on numbers.
 pub to_follows : (last : Option (Bor (List ℕ))) (p : ℕ) → IfSome last (λ digits. p ≤ digits_value 10 digits.now) →
     Follows (option_copied last) p
 to_follows None p h = tt
 to_follows (Some digits) p h = h
 
+-- And back.
 pub from_follows : (last : Option (Bor (List ℕ))) (p : ℕ) → Follows (option_copied last) p →
     IfSome last (λ digits. p ≤ digits_value 10 digits.now)
 from_follows None p h = h
 from_follows (Some digits) p h = h
 
+-- Where there is room, the parts read so far may have the run behind.
 pub may_extend_held : (text items part : List ℕ) (held last : Option (List ℕ)) (end times : ℕ) →
     Progress text held last (Some items) →
     IsItemOf (take end items) part times → Follows last (digits_value 10 part) →

@@ -5,15 +5,17 @@ use Rattle.std.specs.Cmp.{both_ways}
 use Rattle.sp_defs.specs.Partition.{IsPartition, is_regular}
 use Rattle.sp_shapes.proofs.Regular.{index_short, descends, regular_gap}
 use Rattle.sp_shapes.proofs.Grow.{full_rows}
-use Rattle.sp_good_law.proofs.RowRegular.{rows_regular}
+use Rattle.sp_shapes.proofs.RowRegular.{rows_regular}
 use Rattle.sp_partition.specs.Nodes.{Differ}
 
+-- Where they differ, the partition is e-regular.
 pub differ_regular : (e : ℕ) (parts : List ℕ) → 2 ≤ e → IsPartition parts → Differ (e - 1) parts →
     is_regular e parts ≡ true
 differ_regular e parts he h differ = rows_regular e parts he h (λ i lt.
     let apart : slice_index parts i ≢ slice_index parts (i + (e - 1)) = differ i (index_short parts (i + (e - 1)) lt) in
     omega (arith, descends parts h i (e - 1), apart))
 
+-- Where it is e-regular, they differ.
 pub regular_differ : (e : ℕ) (parts : List ℕ) → 2 ≤ e → IsPartition parts → is_regular e parts ≡ true →
     Differ (e - 1) parts
 regular_differ e parts he h reg k lt same =

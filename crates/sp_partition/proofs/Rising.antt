@@ -3,7 +3,7 @@ use Rattle.std.proofs.Common.{◌≡◌, ℕ, zero, suc, ◌<◌, List, [], ◌�
 use Rattle.std.specs.List.{AllByRecursion}
 use Rattle.sp_defs.specs.Partition.{IsPartitionOf, IsRegularOf, IsEarlier, Ascending, order, partitions, regulars}
 use Rattle.sp_lists.proofs.Places.{all_at}
-use Rattle.sp_shapes.proofs.Order.{all_mono}
+use Rattle.sp_lists.proofs.Places.{all_weaken}
 use Rattle.sp_shapes.proofs.Listing.{all_partitions, partitions_ascend, all_regulars, regulars_ascend}
 use Rattle.sp_partition.specs.OrderLaws.{order_one_degree}
 
@@ -28,10 +28,12 @@ rises_ascending n list all h i j lt within =
     ∙ sym (all_at (IsPartitionOf n) list j [] all within).total)
     ∙ ascends_at list h i j lt within
 
+-- The list of all partitions of n ascends place by place.
 pub partitions_rise : (n : ℕ) → Rises (partitions n)
 partitions_rise n = rises_ascending n (partitions n) (all_partitions n) (partitions_ascend n)
 
+-- So does that of the e-regular ones.
 pub regulars_rise : (e n : ℕ) → Rises (regulars e n)
 regulars_rise e n = rises_ascending n (regulars e n)
-    (all_mono (IsRegularOf e n) (IsPartitionOf n) (regulars e n)
+    (all_weaken (IsRegularOf e n) (IsPartitionOf n) (regulars e n)
     (λ x h. record { partition = h.partition; total = h.total }) (all_regulars e n)) (regulars_ascend e n)

@@ -8,12 +8,14 @@ use Rattle.std.proofs.lemmas.Bool.{eqb-false}
 use Rattle.std.proofs.lemmas.List.Sums.{sum_by-cons}
 use Rattle.sp_defs.specs.Partition.{degree, IsPartition}
 use Rattle.sp_defs.specs.Text.{joined_by, distinct, part_text, partition_text}
+use Rattle.sp_lists.proofs.Places.{all_weaken}
+use Rattle.sp_lists.proofs.Maps.{map-alike}
 use Rattle.sp_shapes.proofs.Diagram.{IsPartition-tail}
-use Rattle.sp_shapes.proofs.Order.{all_mono}
 use Rattle.sp_partition.specs.Held.{IsHeld}
 use Rattle.sp_partition.specs.Runs.{lead}
 use Rattle.sp_partition.specs.declared.TheConstants.{CAPACITY}
 
+-- Each part is less than p.
 abbrev pub Below : ℕ → List ℕ → Type 0
 Below p parts = AllByRecursion (λ q. q < p) parts
 
@@ -44,6 +46,7 @@ below_distinct : (p : ℕ) (xs : List ℕ) → Below p xs → Below p (distinct 
 below_distinct p [] h = tt
 below_distinct p (x ∷ xs) (h, hs) = (h, below_filter p (λ q. not (nat_eq q x)) (distinct xs) (below_distinct p xs hs))
 
+-- Of a run and smaller parts behind it the distinct parts are its part and theirs.
 pub distinct-run : (n p : ℕ) (rest : List ℕ) → Below p rest → distinct (run_on (suc n) p rest) ≡ p ∷ distinct rest
 distinct-run zero p rest h = ap (λ xs. p ∷ xs) (keep_below p (distinct rest) (below_distinct p rest h))
 distinct-run (suc n) p rest h =
@@ -80,15 +83,12 @@ count-run (suc n) p rest h =
 
 -- ---- the text
 
-map_alike : {X Y : Type 0} (f g : X → Y) (xs : List X) → AllByRecursion (λ x. f x ≡ g x) xs → map f xs ≡ map g xs
-map_alike f g [] h = refl
-map_alike f g (x ∷ xs) (h, hs) = ap₂ (λ y ys. y ∷ ys) h (map_alike f g xs hs)
-
 -- What stands behind a run.
 abbrev pub later_text : List ℕ → List ℕ
 later_text [] = []
 later_text (p ∷ parts) = codes "," ++ partition_text (p ∷ parts)
 
+-- The text of a run and smaller parts behind it.
 pub text-run : (n p : ℕ) (rest : List ℕ) → Below p rest →
     partition_text (run_on (suc n) p rest) ≡ part_text p (suc n) ++ later_text rest
 unfolding partition_text
@@ -104,8 +104,8 @@ text-run n p rest h =
     of xs q = part_text q (count_by (nat_eq q) xs)
 
     same_texts : map whole (distinct rest) ≡ map (λ q. part_text q (count_by (nat_eq q) rest)) (distinct rest)
-    same_texts = map_alike whole (λ q. part_text q (count_by (nat_eq q) rest)) (distinct rest)
-        (all_mono (λ q. q < p) (λ q. whole q ≡ part_text q (count_by (nat_eq q) rest)) (distinct rest)
+    same_texts = map-alike whole (λ q. part_text q (count_by (nat_eq q) rest)) (distinct rest)
+        (all_weaken (λ q. q < p) (λ q. whole q ≡ part_text q (count_by (nat_eq q) rest)) (distinct rest)
         (λ q lt. ap (part_text q) (count-run_other (suc n) p q rest lt)) (below_distinct p rest h))
 
     joined : (rest : List ℕ) →
@@ -116,11 +116,13 @@ text-run n p rest h =
 
 -- ---- the first run of a partition
 
+-- The parts of a partition are below one that is greater than the first.
 pub below_all : (p x : ℕ) (xs : List ℕ) → IsPartition (x ∷ xs) → x < p → Below p (x ∷ xs)
 below_all p x [] h lt = (lt, tt)
 below_all p x (y ∷ ys) h lt =
     let le : y ≤ x = h.descending 0 in (lt, below_all p y ys (IsPartition-tail x (y ∷ ys) h) (omega arith))
 
+-- Without some parts in front there is room for what is left.
 pub drop_held : (n : ℕ) (parts : List ℕ) → IsHeld parts → IsHeld (drop n parts)
 drop_held zero parts h = h
 drop_held (suc n) [] h = h
@@ -134,6 +136,7 @@ pub record Splits (p n : ℕ) (parts : List ℕ) : Type 0 where
   pub list : parts ≡ run_on n p (drop n parts)
   pub below : Below p (drop n parts)
 
+-- The run at the front, and the parts behind it.
 pub splits : (p : ℕ) (parts : List ℕ) → IsPartition parts → slice_index parts 0 ≤ p →
     Splits p (prefix_len (λ q. nat_eq q p) parts) parts
 splits p [] h le = record { list = refl; below = tt }
@@ -155,10 +158,12 @@ splits p (x ∷ xs) h le =
     more : {n : ℕ} → x ≡ p → Splits p n xs → Splits p (suc n) (x ∷ xs)
     more e inner = record { list = ap₂ (λ y ys. y ∷ ys) e inner.list; below = inner.below }
 
+-- The run at the front of a list of parts, and what is left of it.
 pub record FirstRun (parts : List ℕ) : Type 0 where
   pub text : partition_text parts ≡ part_text (slice_index parts 0) (lead parts) ++ later_text (drop (lead parts) parts)
   pub rest : IsHeld (drop (lead parts) parts)
 
+-- The first part is in the run at the front.
 pub lead_some : (p : ℕ) (parts : List ℕ) → lead (p ∷ parts) ≡ suc (prefix_len (λ q. nat_eq q p) parts)
 lead_some p parts = ap (λ b. cond b (1 + n) 0) (eq-eqb p p refl) ∙ one
   where
@@ -168,6 +173,7 @@ lead_some p parts = ap (λ b. cond b (1 + n) 0) (eq-eqb p p refl) ∙ one
     one : 1 + n ≡ suc n
     one = omega arith
 
+-- A partition that has parts has a run at its front.
 pub first_run : (parts : List ℕ) → IsHeld parts → 0 < length parts → FirstRun parts
 first_run [] h some = absurd (omega arith)
 first_run (p ∷ parts) h some = record {

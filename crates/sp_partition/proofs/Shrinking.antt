@@ -1,60 +1,24 @@
 -- One node less: the fields.
 use Rattle.std.proofs.Common.{◌≡◌, ℕ, zero, suc, ◌+◌, ◌-◌, ◌<◌, ◌≤◌, true, false, cond, nat_eq, nat_le, List, [], ◌∷◌}
 use Rattle.std.proofs.Common.{◌++◌, take, length, replicate, slice_index, slice_set, refl, sym, ◌∙◌, ap, ap₂, subst}
-use Rattle.std.proofs.Common.{arith, leb-true, leb-false, eq-eqb, ne_eqb, get_or-set_same, ◌≢◌}
-use Rattle.std.proofs.lemmas.Bool.Decides.{nat_tests}
+use Rattle.std.proofs.Common.{arith, leb-true, eq-eqb, ne_eqb, get_or-set_same, ◌≢◌}
 use Rattle.std.proofs.lemmas.List.{get_or_append_left}
-use Rattle.std.proofs.lemmas.List.Sums.{sum_by-cons}
 use Rattle.sp_defs.specs.Partition.{degree, part, IsPartition}
 use Rattle.sp_defs.specs.Node.{is_removable}
 use Rattle.sp_defs.specs.Signature.{shrink}
 use Rattle.sp_shapes.proofs.Diagram.{IsPartition-tail, IsPartition-head}
 use Rattle.sp_shapes.proofs.Regular.{index_short}
-use Rattle.sp_good_law.proofs.RowRegular.{Corner, IsPartition-shrink}
+use Rattle.sp_shapes.proofs.Shrink.{Corner, corner-tail, IsPartition-shrink, degree-shrink, length-shrink}
+use Rattle.sp_shapes.proofs.Corners.{removable_corner}
 use Rattle.sp_partition.specs.Held.{IsHeld}
 use Rattle.sp_partition.specs.Padded.{IsPadded}
 use Rattle.sp_partition.specs.declared.TheConstants.{CAPACITY}
 use Rattle.sp_partition.proofs.Holding.{Holds, held_fields, fields_hold, few_parts, holds_padded, holds_view}
 
-next : (k : ℕ) → suc k + 1 ≡ suc (k + 1)
-next k = omega arith
-
-inner : (p : ℕ) (parts : List ℕ) (k : ℕ) → Corner (p ∷ parts) (suc k) → Corner parts k
-inner p parts k h = subst (λ n. slice_index (p ∷ parts) n < slice_index parts k) (next k) h
-
 -- A partition whose greatest part is less than 1 is empty.
 none_left : (parts : List ℕ) → IsPartition parts → slice_index parts 0 < 1 → parts ≡ []
 none_left [] h lt = refl
 none_left (p ∷ parts) h lt = absurd (omega (arith, IsPartition-head p parts h))
-
-pub degree-shrink : (k : ℕ) (parts : List ℕ) → IsPartition parts → Corner parts k →
-    degree (shrink k parts) + 1 ≡ degree parts
-unfolding shrink
-degree-shrink k [] h c = absurd (omega arith)
-degree-shrink zero (p ∷ parts) h c =
-    elim (nat_le p 1) as (λ b. nat_le p 1 ≡ b → degree (cond b parts ((p - 1) ∷ parts)) + 1 ≡ degree (p ∷ parts)) [
-      | true ↦ λ e. omega (arith, leb-true p 1 e, IsPartition-head p parts h, sum_by-cons (λ x. x) p parts)
-      | false ↦ λ e. omega (arith, leb-false p 1 e, sum_by-cons (λ x. x) p parts, sum_by-cons (λ x. x) (p - 1) parts)
-    ] refl
-degree-shrink (suc k) (p ∷ parts) h c =
-    omega (
-      arith,
-      sum_by-cons (λ x. x) p parts,
-      sum_by-cons (λ x. x) p (shrink k parts),
-      degree-shrink k parts (IsPartition-tail p parts h) (inner p parts k c),
-    )
-
--- A row of one node goes, and each other row stays.
-pub length-shrink : (k : ℕ) (parts : List ℕ) → IsPartition parts → Corner parts k →
-    length (shrink k parts) ≡ length parts - cond (nat_eq (slice_index parts k - 1) 0) 1 0
-unfolding shrink
-length-shrink k [] h c = absurd (omega arith)
-length-shrink zero (p ∷ parts) h c = grind (arith, nat_tests)
-length-shrink (suc k) (p ∷ parts) h c =
-    let few : k < length parts = index_short parts k (omega (arith, inner p parts k c)) in
-    let less : length (shrink k parts) ≡ length parts - cond (nat_eq (slice_index parts k - 1) 0) 1 0 =
-    length-shrink k parts (IsPartition-tail p parts h) (inner p parts k c) in
-    grind (arith, nat_tests)
 
 less_one : (m n : ℕ) → suc m - suc n ≡ m - n
 less_one m n = omega arith
@@ -87,23 +51,7 @@ set-shrink (suc n) zero (p ∷ parts) h c few =
     empty low = none_left parts (IsPartition-tail p parts h) (omega (arith, c))
 set-shrink (suc n) (suc k) (p ∷ parts) h c few =
     simp less_one
-    (ap (λ xs. p ∷ xs) (set-shrink n k parts (IsPartition-tail p parts h) (inner p parts k c) (omega arith)))
-
--- ---- the row that shrinks
-
-removable_row : (parts : List ℕ) (row : ℕ) → is_removable parts (row, part parts row) ≡ true → 0 < row
-removable_row parts row h = grind (arith, nat_tests)
-
-removable_less : (parts : List ℕ) (row : ℕ) → is_removable parts (row, part parts row) ≡ true →
-    part parts (row + 1) < part parts row
-removable_less parts row h = grind (arith, nat_tests)
-
-removable_corner : (parts : List ℕ) (row : ℕ) → is_removable parts (row, part parts row) ≡ true → Corner parts (row - 1)
-removable_corner parts row h =
-    subst (λ n. slice_index parts n < slice_index parts (row - 1)) back (removable_less parts row h)
-  where
-    back : row + 1 - 1 ≡ row - 1 + 1
-    back = omega (arith, removable_row parts row h)
+    (ap (λ xs. p ∷ xs) (set-shrink n k parts (IsPartition-tail p parts h) (corner-tail p parts k c) (omega arith)))
 
 abbrev pub less_at : List ℕ → ℕ → List ℕ
 less_at array k = slice_set array k (slice_index array k - 1)
@@ -112,9 +60,11 @@ less_at array k = slice_set array k (slice_index array k - 1)
 abbrev pub parts_left : ℕ → ℕ → ℕ
 parts_left count part = count - cond (nat_eq part 0) 1 0
 
+-- A part that is gone leaves one part less.
 pub one_less : (count part : ℕ) → part ≡ 0 → count - 1 ≡ parts_left count part
 one_less count part e = ap (λ b. count - cond b 1 0) (sym (eq-eqb part 0 e))
 
+-- A part that is left leaves as many.
 pub as_many : (count part : ℕ) → part ≢ 0 → count ≡ parts_left count part
 as_many count part n = whole count ∙ ap (λ b. count - cond b 1 0) (sym (ne_eqb part 0 n))
   where
@@ -173,6 +123,7 @@ shrinks_held degree_is count left array now row is h removes counted = record {
           ∙ set-shrink CAPACITY (row - 1) now h.partition corner (few_parts now h);
     }
 
+-- The fields after a node less, from those before it.
 pub shrinks : (degree_is count left : ℕ) (array now : List ℕ) (row : ℕ) → IsPadded degree_is count array →
     take count array ≡ now →
     true ≡ is_removable now (row, part now row) →

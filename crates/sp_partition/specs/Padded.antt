@@ -1,5 +1,5 @@
 -- The fields of a `Partition`: an array of parts, a count and a degree.
-use Rattle.std.specs.Prelude.{ℕ, ◌≡◌, ◌≤◌, ◌-◌, List, ◌++◌, take, length, sum, replicate}
+use Rattle.std.specs.Prelude.{ℕ, ◌≡◌, ◌≤◌, ◌-◌, List, ◌++◌, take, drop, length, sum, replicate}
 use Rattle.std.proofs.Common.{ap, sym, ◌∙◌, arith}
 use Rattle.std.proofs.lemmas.Grind.{common_steps}
 use Rattle.sp_partition.specs.Held.{IsHeld}
@@ -16,6 +16,10 @@ pub record IsPadded (degree count : ℕ) (array : List ℕ) : Type 0 where
 -- The array that holds these parts.
 abbrev pub padded : List ℕ → List ℕ
 padded parts = parts ++ replicate (CAPACITY - length parts) 0
+
+-- Eight numbers of an array, from this place on.
+abbrev pub eight : ℕ → List ℕ → List ℕ
+eight start array = take 8 (drop start array)
 
 -- ---- the fields follow from the parts
 

@@ -1,7 +1,8 @@
 // All partitions of a number, and its regular ones.
-ghost use Rattle.std.specs.Prelude.{◌≡◌, ◌+◌, ◌≤◌, ◌++◌, map, IfOk, OnOk};
-ghost use Rattle.std.specs.List.{AllByRecursion};
-ghost use Rattle.sp_defs.specs.Partition.{IsPartition, degree as degree_of, is_regular};
+ghost use Rattle.std.specs.Prelude.{◌≡◌, ◌↔◌, ℕ, ◌+◌, ◌≤◌, List, ◌++◌, map, IfOk, OnOk};
+ghost use Rattle.std.specs.List.{AllByRecursion, Contains};
+ghost use Rattle.sp_defs.specs.Partition.{IsPartition, IsPartitionOf, IsRegularOf, degree as degree_of, is_regular};
+ghost use Rattle.sp_defs.specs.Partition.{Ascending};
 ghost use Rattle.sp_defs.specs.Partition.{partitions, partitions_within, regulars};
 
 use crate::{CAPACITY, Partition};
@@ -10,7 +11,9 @@ use std::alloc::{AllocError, Global};
 /// The partitions of `n`, ascending.
 pub fn all_of(alloc: Global, n: u8) -> Result<Vec<Partition>, AllocError>
     requires { n ≤ CAPACITY }
-    ensures { IfOk result (λ list. list.items ≡ partitions n) }
+    ensures list { IfOk result (λ list. list.items ≡ partitions n) }
+    ensures ascends { IfOk result (λ list. Ascending list.items) }
+    ensures each { IfOk result (λ list. (p : List ℕ) → Contains list.items p ↔ IsPartitionOf n p) }
 {
     let mut list = Vec::new(alloc);
     push_all(&mut list, &Partition::empty(), n, n)?;
@@ -21,7 +24,9 @@ pub fn all_of(alloc: Global, n: u8) -> Result<Vec<Partition>, AllocError>
 pub fn regular_of(alloc: Global, e: u8, n: u8) -> Result<Vec<Partition>, AllocError>
     requires least { 2 ≤ e }
     requires most { n ≤ CAPACITY }
-    ensures { IfOk result (λ list. list.items ≡ regulars e n) }
+    ensures list { IfOk result (λ list. list.items ≡ regulars e n) }
+    ensures ascends { IfOk result (λ list. Ascending list.items) }
+    ensures each { IfOk result (λ list. (p : List ℕ) → Contains list.items p ↔ IsRegularOf e n p) }
 {
     let mut list = all_of(alloc, n)?;
     list.retain(

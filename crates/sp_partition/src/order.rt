@@ -15,7 +15,7 @@ impl PartialEq for Partition {
     ghost laws = { eq_laws };
 
     fn eq(&self, other: &Partition) -> bool {
-        self.parts() == other.parts()
+        self.compare_parts(other).is_eq()
     }
 }
 
@@ -45,6 +45,6 @@ impl Ord for Partition {
     fn cmp(&self, other: &Partition) -> Ordering {
         self.degree()
             .cmp(&other.degree())
-            .then_with(|| self.parts().cmp(other.parts()))
+            .then_with(|| self.compare_parts(other))
     }
 }

@@ -1,14 +1,17 @@
 // A partition is a fixed array of parts, seen as its list.
 ghost use Rattle.std.specs.Prelude.{◌≡◌, ◌↔◌, ℕ, ◌+◌, ◌-◌, ◌*◌, ◌<◌, ◌≤◌, ◌++◌, [], replicate, IfOk, IfSome};
-ghost use Rattle.std.specs.Prelude.{IsTrue, SomeIff, length, sum};
-ghost use Rattle.sp_defs.specs.Partition.{degree as degree_of, part as part_of, IsPartition, is_regular as regular};
+ghost use Rattle.std.specs.Prelude.{List, true, IsTrue, SomeIff, length, sum};
+ghost use Rattle.sp_defs.specs.Partition.{degree as degree_of, part as part_of, IsPartition, compare};
+ghost use Rattle.sp_defs.specs.Partition.{is_regular as regular};
 ghost use Rattle.sp_defs.specs.Node.{is_addable, is_removable};
 ghost use Rattle.sp_defs.specs.Signature.{grow, shrink};
 ghost use Rattle.sp_partition.specs.Held.{IsHeld, IsPast};
-ghost use Rattle.sp_partition.specs.Nodes.{CanAdd, CanRemove, Differ};
+ghost use Rattle.sp_partition.specs.Nodes.{CanAdd, CanRemove, Differ, IsWithNode};
 ghost use Rattle.sp_partition.specs.Padded.{padded as padded_parts};
 
 use crate::CAPACITY;
+use crate::eights::compare_arrays;
+use std::cmp::Ordering;
 use std::marker::Model;
 
 /// A partition of at most `CAPACITY`: its parts, positive and weakly decreasing.
@@ -112,6 +115,29 @@ impl Partition {
         differ(self.parts(), e as usize - 1)
     }
 
+    /// The length of this row, counted from 1, which is 0 below the last.
+    pub fn part(&self, row: u8) -> u8
+        requires { 0 < row }
+        ensures value { result ≡ part_of self.now row }
+        ensures small { result ≤ CAPACITY }
+    {
+        self.parts().get(row as usize - 1).copied().unwrap_or(0)
+    }
+
+    /// Whether the row has an addable node: it is the first, or the row above is longer.
+    pub fn can_grow(&self, row: u8) -> bool
+        ensures { result ≡ is_addable self.now (row, part_of self.now row + 1) }
+    {
+        row == 1 || row > 1 && self.part(row - 1) > self.part(row)
+    }
+
+    /// Whether the row has a removable node: the row below is shorter.
+    pub fn can_shrink(&self, row: u8) -> bool
+        ensures { result ≡ is_removable self.now (row, part_of self.now row) }
+    {
+        0 < row && row <= self.count && self.part(row) > self.part(row + 1)
+    }
+
     /// The partition with one node more in this row, counted from 1.
     ///
     /// None where the row has no addable node, or the degree is `CAPACITY`.
@@ -120,6 +146,10 @@ impl Partition {
             (CanAdd row self.now)
             (grow (row - 1) self.now) }
         ensures held { IfSome result IsHeld }
+        ensures more { (p : List ℕ) → (result ≡ Some p) ↔
+            (IsWithNode row (part_of self.now row + 1) self.now p × (degree_of p ≤ CAPACITY)) }
+        ensures addable { (column : ℕ) →
+            (is_addable self.now (row, column) ≡ true) ↔ ((p : List ℕ) × IsWithNode row column self.now p) }
     {
         if self.degree == CAPACITY || !self.can_grow(row) {
             return None;
@@ -135,6 +165,9 @@ impl Partition {
     pub fn remove_node(&self, row: u8) -> Option<Partition>
         ensures node { SomeIff result (CanRemove row self.now) (shrink (row - 1) self.now) }
         ensures held { IfSome result IsHeld }
+        ensures less { (p : List ℕ) → (result ≡ Some p) ↔ IsWithNode row (part_of self.now row) p self.now }
+        ensures removable { (column : ℕ) →
+            (is_removable self.now (row, column) ≡ true) ↔ ((p : List ℕ) × IsWithNode row column p self.now) }
     {
         if !self.can_shrink(row) {
             return None;
@@ -147,6 +180,14 @@ impl Partition {
             shrunk.count -= 1;
         }
         Some(shrunk)
+    }
+
+    // The lexicographic order of the parts. It is that of the whole arrays, since the zeros behind the parts are less
+    // than any part.
+    pub(crate) fn compare_parts(&self, other: &Partition) -> Ordering
+        ensures { result ≡ compare self.now other.now }
+    {
+        compare_arrays(&self.parts, &other.parts)
     }
 
     // The partition with so many equal parts more, unless that is past the capacity.
@@ -164,28 +205,6 @@ impl Partition {
         longer.degree = degree as u8;
         longer.count += times;
         Some(longer)
-    }
-
-    // The part in this row, counted from 1, which is 0 below the last.
-    fn part(&self, row: u8) -> u8
-        requires { 0 < row }
-        ensures { result ≡ part_of self.now row }
-    {
-        self.parts().get(row as usize - 1).copied().unwrap_or(0)
-    }
-
-    // Whether the row above is longer.
-    fn can_grow(&self, row: u8) -> bool
-        ensures { result ≡ is_addable self.now (row, part_of self.now row + 1) }
-    {
-        row == 1 || row > 1 && self.part(row - 1) > self.part(row)
-    }
-
-    // Whether the row below is shorter.
-    fn can_shrink(&self, row: u8) -> bool
-        ensures { result ≡ is_removable self.now (row, part_of self.now row) }
-    {
-        0 < row && row <= self.count && self.part(row) > self.part(row + 1)
     }
 }
 

@@ -1,8 +1,9 @@
 -- The number of the partitions of n with parts at most m, for all n below a bound, by a table that grows from m to
 -- m + 1. The rows of the table are computed by the checker.
-use Rattle.std.proofs.Common.{◌≡◌, ℕ, zero, suc, ◌+◌, ◌-◌, ◌*◌, ◌/◌, ◌<◌, ◌≤◌, Bool, true, false, cond, nat_eq, nat_le}
+use Rattle.std.proofs.Common.{◌≡◌, ℕ, zero, suc, ◌+◌, ◌-◌, ◌*◌, ◌/◌, ◌<◌, ◌≤◌, Bool, true, false, cond, nat_eq}
+use Rattle.std.proofs.Common.{nat_le}
 use Rattle.std.proofs.Common.{List, [], ◌∷◌, ◌++◌, map, take, length, get_or, replicate, sum_by, refl, sym, ◌∙◌, ap}
-use Rattle.std.proofs.Common.{ap₂, subst, arith, leb-true}
+use Rattle.std.proofs.Common.{subst, arith, leb-true}
 use Rattle.std.proofs.Math.Nat.{div-eq_of_lt}
 use Rattle.std.proofs.lemmas.List.{length-map}
 use Rattle.std.proofs.lemmas.List.Concat.{length-flat_map}
@@ -12,8 +13,9 @@ use Rattle.std.specs.List.{AllByRecursion, list_all, range_with_len}
 use Rattle.sp_defs.specs.Partition.{partitions_within, partitions}
 use Rattle.sp_lists.proofs.Elements.{all_tests, range_all, range_at}
 use Rattle.sp_lists.proofs.Greatest.{within_map}
-use Rattle.sp_shapes.proofs.Order.{all_mono}
+use Rattle.sp_lists.proofs.Maps.{map-alike}
 use Rattle.sp_row_bounds.specs.Counts.{partition_numbers}
+use Rattle.sp_lists.proofs.Places.{all_weaken}
 
 -- how many partitions of n have no part greater than m
 counted : ℕ → ℕ → ℕ
@@ -63,13 +65,9 @@ row_of : ℕ → ℕ → List ℕ
 row_of l zero = map (λ n. cond (nat_eq n 0) 1 0) (range_with_len 0 l)
 row_of l (suc m) = next_row l m (row_of l m)
 
-map_alike : {X Y : Type 0} (f g : X → Y) (xs : List X) → AllByRecursion (λ x. f x ≡ g x) xs → map f xs ≡ map g xs
-map_alike f g [] h = refl
-map_alike f g (x ∷ xs) (h, hs) = ap₂ (λ a b. a ∷ b) h (map_alike f g xs hs)
-
 row_is : (l m : ℕ) → row_of l m ≡ map (counted m) (range_with_len 0 l)
 unfolding row_of next_row counted partitions_within
-row_is l zero = map_alike (λ n. cond (nat_eq n 0) 1 0) (counted 0) (range_with_len 0 l)
+row_is l zero = map-alike (λ n. cond (nat_eq n 0) 1 0) (counted 0) (range_with_len 0 l)
     (range_all (λ n. cond (nat_eq n 0) 1 0 ≡ counted 0 n) 0 l (λ n lo hi. one (nat_eq n 0)))
   where
     one : (b : Bool) → cond b 1 0 ≡ length {A = List ℕ} (cond b ([] ∷ []) [])
@@ -77,7 +75,7 @@ row_is l zero = map_alike (λ n. cond (nat_eq n 0) 1 0) (counted 0) (range_with_
     one false = refl
 row_is l (suc m) =
     ap (next_row l m) (row_is l m)
-    ∙ map_alike (λ n. sum_by (λ k. get_or row (n - k * suc m) 0) (range_with_len 0 (n / suc m + 1))) (counted (suc m))
+    ∙ map-alike (λ n. sum_by (λ k. get_or row (n - k * suc m) 0) (range_with_len 0 (n / suc m + 1))) (counted (suc m))
     (range_with_len 0 l)
     (range_all
     (λ n. sum_by (λ k. get_or row (n - k * suc m) 0) (range_with_len 0 (n / suc m + 1)) ≡ counted (suc m) n) 0 l
@@ -103,10 +101,11 @@ counted_all n le = ap (λ m. counted m n) (gap n le) ∙ counted-more n (32 - n)
     gap : (n : ℕ) → n ≤ 32 → 32 ≡ n + (32 - n)
     gap n le = omega arith
 
+-- The partitions of 0, 1, .. 32, counted.
 pub numbers : map (λ n. length (partitions n)) (range_with_len 0 33) ≡ partition_numbers
 unfolding partitions counted
 numbers =
-    sym (map_alike (counted 32) (λ n. length (partitions n)) (range_with_len 0 33)
+    sym (map-alike (counted 32) (λ n. length (partitions n)) (range_with_len 0 33)
     (range_all (λ n. counted 32 n ≡ length (partitions n)) 0 33 (λ n lo hi. counted_all n (omega arith))))
     ∙ sym (row_is 33 32)
     ∙ computed
@@ -118,17 +117,16 @@ few l b le test n lt =
     range_at (λ k. length (partitions k) ≤ b) 0 l
     (within_map (λ k. length (partitions k)) b (range_with_len 0 l)
     (subst (λ xs. AllByRecursion (λ x. x ≤ b) xs) (sym first)
-    (all_mono (λ x. nat_le x b ≡ true) (λ x. x ≤ b) (take l partition_numbers) (λ x e. leb-true x b e)
+    (all_weaken (λ x. nat_le x b ≡ true) (λ x. x ≤ b) (take l partition_numbers) (λ x e. leb-true x b e)
     (all_tests (λ x. nat_le x b) (take l partition_numbers) test)))) n (omega arith) (omega arith)
   where
     first : map (λ k. length (partitions k)) (range_with_len 0 l) ≡ take l partition_numbers
     first = sym (take-map-range_with_len (λ k. length (partitions k)) 0 33 l le) ∙ ap (take l) numbers
 
-pub up_to_20 : (n : ℕ) → n ≤ 20 → length (partitions n) ≤ 627
-up_to_20 n le = few 21 627 (omega arith) refl n (omega arith)
-
+-- the bounds for all n up to 30, and up to 32
 pub up_to_30 : (n : ℕ) → n ≤ 30 → length (partitions n) ≤ 5604
 up_to_30 n le = few 31 5604 (omega arith) refl n (omega arith)
 
+-- the bound for all n up to 32
 pub up_to_32 : (n : ℕ) → n ≤ 32 → length (partitions n) ≤ 8349
 up_to_32 n le = few 33 8349 (omega arith) refl n (omega arith)

@@ -10,9 +10,8 @@ use Rattle.sp_defs.specs.Row.{combination, regular_row, shares}
 use Rattle.sp_defs.specs.Statements.{IsLabel}
 use Rattle.sp_defs.specs.Within.{PowersWithin, ProductWithin}
 use Rattle.sp_lists.proofs.Elements.{all_map, all_filter}
-use Rattle.sp_lists.proofs.Places.{all_at}
+use Rattle.sp_lists.proofs.Places.{all_at, all_weaken}
 use Rattle.sp_shapes.proofs.Listing.{all_partitions}
-use Rattle.sp_shapes.proofs.Order.{all_mono}
 use Rattle.sp_algebra.proofs.Sizes.{within_more, product_within_more}
 use Rattle.sp_row_bounds.specs.Powers.{ladder_bound, row_bound}
 use Rattle.sp_row_bounds.proofs.Rows.{powers_law}
@@ -23,7 +22,7 @@ pub entries_all : (P : Laurent → Type 0) (n : ℕ) (w : Vector) → ((lambda :
 entries_all P n w h =
     all_filter (λ t. P t.1) (λ t. nat_lt 0 (length t.1)) (map (λ x. (x, w x)) (partitions n))
     (all_map (λ t. nat_lt 0 (length t.1) ≡ true → P t.1) (λ x. (x, w x)) (partitions n)
-    (all_mono (IsPartitionOf n) (λ x. nat_lt 0 (length (w x)) ≡ true → P (w x)) (partitions n) (λ x g _. h x g)
+    (all_weaken (IsPartitionOf n) (λ x. nat_lt 0 (length (w x)) ≡ true → P (w x)) (partitions n) (λ x g _. h x g)
     (all_partitions n)))
 
 -- a share times its row
@@ -40,6 +39,7 @@ product_entries e mu limit j d is le lt =
     (all_at (λ a. ProductWithin (row_bound e mu) a.1 (regular_row e a.0 lambda)) (shares e mu) j d
     ((powers_law e mu is).products lambda h.partition) lt))
 
+-- the share at a rank
 pub share_within : (e : ℕ) (mu : List ℕ) (limit j : ℕ) (d : List ℕ × Laurent) → IsLabel e mu →
     ladder_bound mu ≤ limit → j < length (shares e mu) → PowersWithin limit (get_or (shares e mu) j d).1
 share_within e mu limit j d is le lt =
@@ -47,6 +47,7 @@ share_within e mu limit j d is le lt =
     (all_at (λ a. PowersWithin (ladder_bound mu) a.1) (shares e mu) j d (powers_law e mu is).shares_at lt)
 
 module _ (e : ℕ) (mu : List ℕ) (limit : ℕ) (is : IsLabel e mu) (le : row_bound e mu ≤ limit) where
+  -- the entries of the row
   pub row_entries : AllByRecursion (λ t. PowersWithin limit t.1) (entries (degree mu) (regular_row e mu))
   row_entries = entries_all (PowersWithin limit) (degree mu) (regular_row e mu)
       (λ lambda h.

@@ -1,7 +1,8 @@
 -- An exponent lies within the number of nodes added times the degree reached. So the powers of a sum over chains, and
 -- of a ladder vector, lie within the square of the degree.
 use Rattle.std.proofs.Common.{◌≡◌, ℕ, zero, suc, ◌+◌, ◌-◌, ◌*◌, ◌<◌, ◌≤◌, Bool, true, false, not, ◌&&◌, cond, List}
-use Rattle.std.proofs.Common.{[], ◌∷◌, map, filter, length, refl, sym, ◌∙◌, ap, subst, arith, nat_eq, nat_lt, count_by}
+use Rattle.std.proofs.Common.{[], ◌∷◌, map, filter, length, refl, sym, ◌∙◌, ap, subst, arith, nat_eq, nat_lt}
+use Rattle.std.proofs.Common.{count_by}
 use Rattle.std.proofs.Common.{ltb-true, ℤ, pos, ◌+ℤ◌, ◌-ℤ◌}
 use Rattle.std.proofs.lemmas.Int.{ints}
 use Rattle.std.proofs.lemmas.List.{length-map}
@@ -21,10 +22,10 @@ use Rattle.sp_shapes.proofs.Diagram.{all_nodes}
 use Rattle.sp_shapes.proofs.Listing.{all_partitions}
 use Rattle.sp_shapes.proofs.CornerRows.{removable-rows}
 use Rattle.sp_shapes.proofs.Moves.{Move, move_facts, degree_added}
-use Rattle.sp_shapes.proofs.Order.{all_mono}
 use Rattle.sp_shapes.proofs.Regular.{index_short}
 use Rattle.sp_ladder_law.proofs.Chains.{chain_step}
 use Rattle.sp_row_bounds.proofs.Powers.{powers_sum}
+use Rattle.sp_lists.proofs.Places.{all_weaken}
 
 -- ---- above a row there is at most one node for each row
 
@@ -80,6 +81,7 @@ int_sum_within b (x ∷ xs) (h, hs) = omega (arith, sum_near x (int_sum xs), int
     sum_near : (x y : ℤ) → unsigned_abs (x +ℤ y) ≤ unsigned_abs x + unsigned_abs y
     sum_near x y = omega (arith, ints)
 
+-- The exponent of a move lies within the number of nodes added times the degree after it.
 pub exponent_within : (e i m : ℕ) (before after : List ℕ) → IsPartition after → length (added before after) ≡ m →
     unsigned_abs (exponent e i before after) ≤ m * degree after
 unfolding exponent
@@ -111,6 +113,7 @@ exponent_within e i m before after pa count =
 
 -- ---- chains
 
+-- The powers of the sum over the chains to a partition lie within the square of its degree.
 pub chain_within : (e : ℕ) (backward : List Step) (last : List ℕ) → IsPartition last →
     PowersWithin (degree last * degree last) (chain_sum e backward last)
 unfolding chain_sum chains_to chain_exponent sum_over divided_power sources
@@ -149,11 +152,12 @@ chain_within e (s ∷ earlier) last h =
         (filter (λ before. is_move e s.residue s.count before last) (partitions (degree last - s.count)))
         (all_filter (λ x. PowersWithin (degree last * degree last) (term x))
         (λ before. is_move e s.residue s.count before last) (partitions (degree last - s.count))
-        (all_mono (IsPartitionOf (degree last - s.count))
+        (all_weaken (IsPartitionOf (degree last - s.count))
         (λ x. is_move e s.residue s.count x last ≡ true → PowersWithin (degree last * degree last) (term x))
         (partitions (degree last - s.count))
         (λ x g mv. one x g.partition mv (ih x g.partition)) (all_partitions (degree last - s.count))))
 
+-- So do those of a ladder vector.
 pub ladder_within : (e : ℕ) (mu lambda : List ℕ) → IsPartition lambda →
     PowersWithin (degree lambda * degree lambda) (ladder_vector e mu lambda)
 unfolding ladder_vector

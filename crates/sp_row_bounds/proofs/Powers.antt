@@ -8,20 +8,23 @@ use Rattle.std.specs.Int.RustNames.{unsigned_abs}
 use Rattle.sp_defs.specs.Laurent.{Laurent, Term, negate, products, times, lift, sum_over, IsLaurent, IsPositive}
 use Rattle.sp_defs.specs.Within.{PowersWithin}
 use Rattle.sp_lists.proofs.Elements.{all_append, all_map, all_filter}
-use Rattle.sp_shapes.proofs.Order.{all_mono}
 use Rattle.sp_algebra.proofs.Coefficients.{Above, Canonical}
 use Rattle.sp_algebra.proofs.Canonical.{canonical-from}
 use Rattle.sp_algebra.proofs.Values.{first_positive}
 use Rattle.sp_algebra.proofs.Sizes.{powers_collect, powers_plus}
+use Rattle.sp_lists.proofs.Places.{all_weaken}
 
+-- A fact of each power of a polynomial.
 abbrev pub AllPowers : (ℤ → Type 0) → Laurent → Type 0
 AllPowers P p = AllByRecursion (λ t. P t.0) p
 
+-- The powers of minus p are those of p.
 pub powers_negate : (P : ℤ → Type 0) (p : Laurent) → AllPowers P p → AllPowers P (negate p)
 unfolding negate
 powers_negate P p h =
     powers_collect P (map (λ t. (t.0, neg_ℤ t.1)) p) (all_map (λ t. P t.0) (λ t. (t.0, neg_ℤ t.1)) p h)
 
+-- The powers of a sum are among those of its terms.
 pub powers_sum : {X : Type 0} (P : ℤ → Type 0) (f : X → Laurent) (xs : List X) →
     AllByRecursion (λ x. AllPowers P (f x)) xs → AllPowers P (sum_over xs f)
 unfolding sum_over
@@ -37,9 +40,10 @@ module _ (P Q R : ℤ → Type 0) (add : (j k : ℤ) → P j → Q k → R (j +�
   powers_products ((k, c) ∷ p) q (h, hp) hq =
       all_append (λ t. R t.0) (map (λ t. (k +ℤ t.0, c *ℤ t.1)) q) (products p q)
       (all_map (λ t. R t.0) (λ t. (k +ℤ t.0, c *ℤ t.1)) q
-      (all_mono (λ t. Q t.0) (λ t. R (k +ℤ t.0)) q (λ t g. add k t.0 h g) hq))
+      (all_weaken (λ t. Q t.0) (λ t. R (k +ℤ t.0)) q (λ t g. add k t.0 h g) hq))
       (powers_products p q hp hq)
 
+  -- The powers of a product are sums of powers.
   pub powers_times : (p q : Laurent) → AllPowers P p → AllPowers Q q → AllPowers R (times p q)
   unfolding times
   powers_times p q hp hq = powers_collect R (products p q) (powers_products p q hp hq)
@@ -50,8 +54,9 @@ module _ (P Q R : ℤ → Type 0) (add : (j k : ℤ) → P j → Q k → R (j +�
 abbrev pub Floor : ℕ → ℤ → Type 0
 Floor d k = neg_ℤ (pos d) ≤ℤ k
 
+-- Powers that lie within d are at least minus d.
 pub within_floor : (d : ℕ) (p : Laurent) → PowersWithin d p → AllPowers (Floor d) p
-within_floor d p h = all_mono (λ t. unsigned_abs t.0 ≤ d) (λ t. Floor d t.0) p (λ t g. low t.0 g) h
+within_floor d p h = all_weaken (λ t. unsigned_abs t.0 ≤ d) (λ t. Floor d t.0) p (λ t g. low t.0 g) h
   where
     low : (k : ℤ) → unsigned_abs k ≤ d → Floor d k
     low k g = omega (arith, ints)
@@ -65,10 +70,10 @@ within_lift d p h =
     (all_append near (filter (λ t. int_le t.0 (pos 0)) p)
     (map (λ t. (neg_ℤ t.0, t.1)) (filter (λ t. int_lt t.0 (pos 0)) p))
     (all_filter near (λ t. int_le t.0 (pos 0)) p
-    (all_mono (λ t. Floor d t.0) (λ t. int_le t.0 (pos 0) ≡ true → near t) p (λ t g e. own t.0 g e) h))
+    (all_weaken (λ t. Floor d t.0) (λ t. int_le t.0 (pos 0) ≡ true → near t) p (λ t g e. own t.0 g e) h))
     (all_map near (λ t. (neg_ℤ t.0, t.1)) (filter (λ t. int_lt t.0 (pos 0)) p)
     (all_filter (λ t. near (neg_ℤ t.0, t.1)) (λ t. int_lt t.0 (pos 0)) p
-    (all_mono (λ t. Floor d t.0) (λ t. int_lt t.0 (pos 0) ≡ true → near (neg_ℤ t.0, t.1)) p
+    (all_weaken (λ t. Floor d t.0) (λ t. int_lt t.0 (pos 0) ≡ true → near (neg_ℤ t.0, t.1)) p
     (λ t g e. turned t.0 g e) h))))
   where
     near : Term → Type 0

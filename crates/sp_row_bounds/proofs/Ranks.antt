@@ -6,11 +6,13 @@ use Rattle.std.proofs.lemmas.List.Sums.{length-filter, count_by-le-length}
 use Rattle.sp_defs.specs.Partition.{degree, partitions, is_regular, regulars}
 use Rattle.sp_defs.specs.Row.{earlier}
 use Rattle.sp_defs.specs.Statements.{IsLabel}
-use Rattle.sp_shapes.proofs.Listing.{Occurs, IsPartition-nil, IsPartition-cons, each_regular, regulars_ascend}
+use Rattle.sp_shapes.proofs.Listing.{IsPartition-nil, IsPartition-cons, each_regular, regulars_ascend}
+use Rattle.sp_row_law.proofs.Setting.{good}
 use Rattle.sp_row_bounds.specs.Powers.{row_bound}
 use Rattle.sp_row_bounds.specs.Counts.{CountLaw}
 use Rattle.sp_row_bounds.proofs.Shares.{fewer_before}
-use Rattle.sp_row_bounds.proofs.Counts.{numbers, up_to_20, up_to_30, up_to_32}
+use Rattle.sp_row_bounds.proofs.Counts.{numbers, up_to_30, up_to_32}
+use Rattle.sp_lists.proofs.Occurrence.{occurs_some}
 
 few_regulars : (e n : ℕ) → length (regulars e n) ≤ length (partitions n)
 unfolding regulars
@@ -20,10 +22,6 @@ few_regulars e n =
       length-filter (is_regular e) (partitions n),
       count_by-le-length (is_regular e) (partitions n),
     )
-
-occurs_some : {X : Type 0} (x : X) (xs : List X) → Occurs x xs → 1 ≤ length xs
-occurs_some x [] o = absurd o
-occurs_some x (y ∷ xs) o = omega arith
 
 -- the partition with one part
 some_regular : (e n : ℕ) → 2 ≤ e → 1 ≤ length (regulars e n)
@@ -48,8 +46,7 @@ few_earlier e mu is =
     omega (
       arith,
       fewer_before mu (regulars e (degree mu)) (regulars_ascend e (degree mu))
-          (each_regular e (degree mu) mu
-          (record { partition = is.partition; total = refl; regular = is.regular })),
+          (each_regular e (degree mu) mu (good e mu is)),
     )
 
 -- ---- the bound on powers
@@ -71,16 +68,15 @@ row_bound_within e mu n b is le most =
     squares : degree mu * degree mu ≤ n * n
     squares = product (degree mu) n (degree mu) n le le
 
+-- The counts of partitions, and what they bound.
 pub count_law : CountLaw
 count_law = record {
   numbers = numbers;
-  up_to_20 = up_to_20;
   up_to_30 = up_to_30;
   up_to_32 = up_to_32;
   some_regular = some_regular;
   few_regulars = few_regulars;
   few_earlier = few_earlier;
-  row_bound_20 = λ e mu is le. row_bound_within e mu 20 627 is le (up_to_20 (degree mu) le);
   row_bound_30 = λ e mu is le. row_bound_within e mu 30 5604 is le (up_to_30 (degree mu) le);
   row_bound_32 = λ e mu is le. row_bound_within e mu 32 8349 is le (up_to_32 (degree mu) le);
 }

@@ -1,27 +1,25 @@
--- The powers in the shares and the regular row of an e-regular partition, and in all that is made on the way: by the
--- ladder law the ladder vectors are a triangle, whose powers lie within the square of the degree.
+-- The powers in the ladder vector and the shares of an e-regular partition lie within the square of the degree. Those
+-- in its regular row, and in all that is made on the way, lie within that square times one more than its rank.
 use Rattle.std.proofs.Common.{◌≡◌, ◌≢◌, ℕ, ◌+◌, ◌*◌, ◌≤◌, Bool, true, false, cond, List, [], ◌∷◌, length}
-use Rattle.std.proofs.Common.{filter, drop, refl, sym, ◌∙◌, ap, subst, arith, ◌⊎◌, inl, inr, ℤ, Less}
+use Rattle.std.proofs.Common.{filter, drop, sym, subst, arith, ◌⊎◌, inl, inr, ℤ}
 use Rattle.std.specs.Int.RustNames.{unsigned_abs}
 use Rattle.std.specs.List.{AllByRecursion}
 use Rattle.std.specs.Ordering.{is_eq}
-use Rattle.sp_defs.specs.Partition.{degree, IsPartition, compare, regulars, Ascending, IsRegularOf}
+use Rattle.sp_defs.specs.Partition.{degree, IsPartition, compare}
 use Rattle.sp_defs.specs.Laurent.{Laurent, plus, negate, times}
 use Rattle.sp_defs.specs.Power.{Vector, Entries, vector_of}
 use Rattle.sp_defs.specs.Ladder.{ladder_vector}
-use Rattle.sp_defs.specs.Row.{Factors, combination, before, factors, shares_over, regular_row, shares}
+use Rattle.sp_defs.specs.Row.{Factors, combination, earlier, shares_over, regular_row, shares}
 use Rattle.sp_defs.specs.Statements.{IsLabel}
 use Rattle.sp_defs.specs.Within.{PowersWithin, ProductWithin}
-use Rattle.sp_lists.proofs.Places.{all_at, all_drop}
+use Rattle.sp_lists.proofs.Places.{all_at, all_drop, all_weaken}
 use Rattle.sp_lists.proofs.Elements.{nil_or_not, all_both, all_filter}
 use Rattle.sp_algebra.proofs.Sizes.{powers_plus, within_times, within_more}
-use Rattle.sp_shapes.proofs.Order.{all_mono}
-use Rattle.sp_shapes.proofs.Before.{all_before, all_kept, Ascending-before, before_before}
-use Rattle.sp_shapes.proofs.Listing.{all_regulars, regulars_ascend}
-use Rattle.sp_triangle.proofs.Triangle.{Triangle}
 use Rattle.sp_triangle.proofs.Shares.{rows}
 use Rattle.sp_ladder_law.proofs.LadderLaw.{ladder_law}
-use Rattle.sp_row_law.proofs.RowsLaw.{ladder_triangle, IsLaurent-ladder_vector}
+use Rattle.sp_row_law.proofs.Setting.{Good, IsBefore, good, good_earlier, earlier_before, earlier_ascends, triangle}
+use Rattle.sp_row_law.proofs.Setting.{row_same}
+use Rattle.sp_row_law.proofs.Setting.{label, IsLaurent-ladder_vector}
 use Rattle.sp_row_bounds.specs.Powers.{ladder_bound, row_bound, RowPowers, PowersLaw}
 use Rattle.sp_row_bounds.proofs.Powers.{powers_negate, powers_sum}
 use Rattle.sp_row_bounds.proofs.Exponents.{ladder_within}
@@ -53,49 +51,25 @@ near_vector b ((kappa, p) ∷ es) nu (h, hs) = found (is_eq (compare kappa nu)) 
 -- ---- one e-regular partition
 
 module _ (e : ℕ) (mu : List ℕ) (is : IsLabel e mu) where
-  abbrev Good : List ℕ → Type 0
-  Good = IsRegularOf e (degree mu)
-
   abbrev A : List ℕ → Vector
   A = ladder_vector e
 
-  abbrev rs : List (List ℕ)
-  rs = regulars e (degree mu)
-
   abbrev seg : List (List ℕ)
-  seg = before mu rs
-
-  good : Good mu
-  good = record { partition = is.partition; total = refl; regular = is.regular }
-
-  good_seg : AllByRecursion Good seg
-  good_seg = all_kept Good mu rs (all_regulars e (degree mu))
-
-  seg_ascends : Ascending seg
-  seg_ascends = Ascending-before mu rs (regulars_ascend e (degree mu))
-
-  tri : Triangle Good A
-  tri = ladder_triangle e (degree mu) is.e_least
+  seg = earlier e mu
 
   -- ---- the ladder vectors of that degree
 
-  there : (lambda : List ℕ) → IsPartition lambda → (nu : List ℕ) → Good nu →
+  there : (lambda : List ℕ) → IsPartition lambda → (nu : List ℕ) → Good e mu nu →
       PowersWithin (ladder_bound mu) (ladder_vector e nu lambda)
   there lambda pl nu g =
       subst (λ n. PowersWithin (n * n) (ladder_vector e nu lambda)) g.total
-      (ladder_near e nu lambda (record { e_least = is.e_least; partition = g.partition; regular = g.regular }) pl)
+      (ladder_near e nu lambda (label e (degree mu) nu is.e_least g) pl)
 
-  between : (nu kappa : List ℕ) → Good nu → Good kappa → PowersWithin (ladder_bound mu) (ladder_vector e nu kappa)
+  between : (nu kappa : List ℕ) → Good e mu nu → Good e mu kappa →
+      PowersWithin (ladder_bound mu) (ladder_vector e nu kappa)
   between nu kappa gn gk = there kappa gk.partition nu gn
 
-  -- ---- the rows over the list are the regular rows
-
-  row_same : (kappa lambda : List ℕ) → Good kappa → compare kappa mu ≡ Less →
-      rows A seg kappa lambda ≡ regular_row e kappa lambda
-  unfolding regular_row
-  row_same kappa lambda g lt =
-      ap (λ s. combination A (factors A kappa s) lambda)
-      (before_before kappa mu rs lt ∙ ap (λ d. before kappa (regulars e d)) (sym g.total))
+  -- ---- a share times its row
 
   Product : List ℕ → List ℕ × Laurent → Type 0
   Product lambda a = ProductWithin (row_bound e mu) a.1 (regular_row e a.0 lambda)
@@ -103,16 +77,16 @@ module _ (e : ℕ) (mu : List ℕ) (is : IsLabel e mu) where
   products_near : (lambda : List ℕ) → IsPartition lambda → AllByRecursion (Product lambda) (shares e mu)
   unfolding shares Product
   products_near lambda pl =
-      all_mono
-      (λ a. ProductWithin (row_bound e mu) a.1 (rows A seg a.0 lambda) × (Good a.0 × (compare a.0 mu ≡ Less)))
+      all_weaken
+      (λ a. ProductWithin (row_bound e mu) a.1 (rows A seg a.0 lambda) × IsBefore e mu a.0)
       (Product lambda) (shares_over A mu seg)
-      (λ a h. subst (ProductWithin (row_bound e mu) a.1) (row_same a.0 lambda h.1.0 h.1.1) h.0)
+      (λ a h. subst (ProductWithin (row_bound e mu) a.1) (row_same e mu a.0 lambda h.1) h.0)
       (all_both (λ a. ProductWithin (row_bound e mu) a.1 (rows A seg a.0 lambda))
-      (λ a. Good a.0 × (compare a.0 mu ≡ Less)) (shares_over A mu seg)
-      (near_products Good A tri (IsLaurent-ladder_vector e) (ladder_bound mu) between lambda (there lambda pl) mu seg
-      good good_seg seg_ascends)
-      (by_keys Good A tri (IsLaurent-ladder_vector e) (ladder_bound mu) (λ x. Good x × (compare x mu ≡ Less)) mu seg
-      (all_both Good (λ x. compare x mu ≡ Less) seg good_seg (all_before mu rs))))
+      (λ a. IsBefore e mu a.0) (shares_over A mu seg)
+      (near_products (Good e mu) A (triangle e mu is) (IsLaurent-ladder_vector e) (ladder_bound mu) between lambda
+      (there lambda pl) mu seg (good e mu is) (good_earlier e mu) (earlier_ascends e mu))
+      (by_keys (Good e mu) A (triangle e mu is) (IsLaurent-ladder_vector e) (ladder_bound mu) (IsBefore e mu) mu seg
+      (earlier_before e mu)))
 
   Term : List ℕ → List ℕ × Laurent → Type 0
   Term lambda a = PowersWithin (row_bound e mu) (times a.1 (regular_row e a.0 lambda))
@@ -120,7 +94,7 @@ module _ (e : ℕ) (mu : List ℕ) (is : IsLabel e mu) where
   terms_near : (lambda : List ℕ) → IsPartition lambda → AllByRecursion (Term lambda) (shares e mu)
   unfolding Product Term
   terms_near lambda pl =
-      all_mono (Product lambda) (Term lambda) (shares e mu)
+      all_weaken (Product lambda) (Term lambda) (shares e mu)
       (λ a h. within_times (row_bound e mu) a.1 (regular_row e a.0 lambda) h) (products_near lambda pl)
 
   -- ---- without any of the shares
@@ -144,15 +118,17 @@ module _ (e : ℕ) (mu : List ℕ) (is : IsLabel e mu) where
 
   all_shares_near : AllByRecursion (λ a. PowersWithin (ladder_bound mu) a.1) (shares e mu)
   unfolding shares
-  all_shares_near = near_shares Good A tri (IsLaurent-ladder_vector e) (ladder_bound mu) between mu seg good good_seg
-      seg_ascends
+  all_shares_near =
+      near_shares (Good e mu) A (triangle e mu is) (IsLaurent-ladder_vector e) (ladder_bound mu) between mu seg
+      (good e mu is) (good_earlier e mu) (earlier_ascends e mu)
 
   row_near : (lambda : List ℕ) → IsPartition lambda → PowersWithin (row_bound e mu) (regular_row e mu lambda)
   unfolding regular_row
   row_near lambda pl =
-      near_row Good A tri (IsLaurent-ladder_vector e) (ladder_bound mu) between lambda (there lambda pl) mu seg good
-      good_seg seg_ascends
+      near_row (Good e mu) A (triangle e mu is) (IsLaurent-ladder_vector e) (ladder_bound mu) between lambda
+      (there lambda pl) mu seg (good e mu is) (good_earlier e mu) (earlier_ascends e mu)
 
+  -- the bounds on powers for mu
   pub row_powers : RowPowers e mu
   unfolding Product Term
   row_powers = record {
@@ -165,10 +141,11 @@ module _ (e : ℕ) (mu : List ℕ) (is : IsLabel e mu) where
     left = λ t test lambda pl.
         without (filter test (drop t (shares e mu))) lambda pl
         (all_filter (Term lambda) test (drop t (shares e mu))
-        (all_mono (Term lambda) (λ a. test a ≡ true → Term lambda a) (drop t (shares e mu)) (λ a h _. h)
+        (all_weaken (Term lambda) (λ a. test a ≡ true → Term lambda a) (drop t (shares e mu)) (λ a h _. h)
         (all_drop (Term lambda) (shares e mu) t
         (λ i d _ lt. all_at (Term lambda) (shares e mu) i d (terms_near lambda pl) lt))));
   }
 
+-- The bounds on powers for all e and mu.
 pub powers_law : PowersLaw
 powers_law e mu h = row_powers e mu h

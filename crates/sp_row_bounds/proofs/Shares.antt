@@ -1,7 +1,7 @@
 -- Over any triangle of vectors with powers within d: the powers of the shares are within d, and those of the row of mu
 -- within d for mu and for each partition before it.
-use Rattle.std.proofs.Common.{◌≡◌, ℕ, zero, suc, ◌+◌, ◌*◌, ◌<◌, ◌≤◌, List, [], ◌∷◌, length, refl, sym}
-use Rattle.std.proofs.Common.{ap, subst, arith, length-append, inl, inr, ℤ, pos, ◌<ℤ◌, Less, mul-le-mul_right}
+use Rattle.std.proofs.Common.{◌≡◌, ℕ, zero, suc, ◌+◌, ◌*◌, ◌<◌, ◌≤◌, List, [], ◌∷◌, length, sym}
+use Rattle.std.proofs.Common.{ap, subst, arith, length-append, ℤ, pos, ◌<ℤ◌, Less, mul-le-mul_right}
 use Rattle.std.proofs.lemmas.Int.{ints}
 use Rattle.std.specs.Int.RustNames.{unsigned_abs}
 use Rattle.std.specs.List.{AllByRecursion}
@@ -14,21 +14,18 @@ use Rattle.sp_lists.proofs.Elements.{all_every, all_both}
 use Rattle.sp_algebra.proofs.Coefficients.{same_laurent}
 use Rattle.sp_algebra.proofs.Laws.{coefficient-plus, coefficient-negate, IsLaurent-plus}
 use Rattle.sp_algebra.proofs.Sizes.{powers_plus, within_times, within_more, product_within}
-use Rattle.sp_shapes.proofs.Order.{all_mono}
 use Rattle.sp_shapes.proofs.Before.{before_keep, all_kept, Ascending-before, after, about}
-use Rattle.sp_shapes.proofs.Listing.{Occurs}
 use Rattle.sp_triangle.proofs.Triangle.{Triangle, IsLaurent-combination, row_positive}
 use Rattle.sp_triangle.proofs.Shares.{rows, keys-shares, from_keys, shares_sum}
 use Rattle.sp_triangle.proofs.NextShare.{share_of, next_share}
 use Rattle.sp_row_bounds.proofs.Powers.{AllPowers, Floor, powers_negate, powers_sum, powers_times, within_floor}
 use Rattle.sp_row_bounds.proofs.Powers.{within_lift, positive_powers}
+use Rattle.sp_lists.proofs.Places.{all_weaken}
+use Rattle.sp_lists.proofs.Occurrence.{Occurs, all_occur}
 
 -- ---- how many are before one of the list
 
-all_occur : {X : Type 0} (xs : List X) → AllByRecursion (λ x. Occurs x xs) xs
-all_occur [] = tt
-all_occur (x ∷ xs) = (inl refl, all_mono (λ y. Occurs y xs) (λ y. Occurs y (x ∷ xs)) xs (λ y o. inr o) (all_occur xs))
-
+-- Fewer are before one of an ascending list than it has.
 pub fewer_before : (kappa : List ℕ) (seg : List (List ℕ)) → Ascending seg → Occurs kappa seg →
     length (before kappa seg) + 1 ≤ length seg
 fewer_before kappa seg up o =
@@ -98,7 +95,7 @@ module _ (Good : List ℕ → Type 0) (A : List ℕ → Vector) (tri : Triangle 
 
         terms : AllByRecursion (λ a. AllPowers (Floor d) (term a)) s
         terms =
-            all_mono (λ a. PowersWithin d a.1 × (Good a.0 × (compare nu a.0 ≡ Less)))
+            all_weaken (λ a. PowersWithin d a.1 × (Good a.0 × (compare nu a.0 ≡ Less)))
             (λ a. AllPowers (Floor d) (term a)) s
             (λ a h.
             product_floor a.1 (rows A (nu ∷ later) a.0 nu)
@@ -108,6 +105,7 @@ module _ (Good : List ℕ → Type 0) (A : List ℕ → Vector) (tri : Triangle 
             (all_both (λ a. Good a.0) (λ a. compare nu a.0 ≡ Less) s (by_keys Good mu later gs)
             (by_keys (λ x. compare nu x ≡ Less) mu later u)))
 
+    -- The powers of the shares lie within the bound.
     pub near_shares : (mu : List ℕ) (seg : List (List ℕ)) → Good mu → AllByRecursion Good seg → Ascending seg →
         AllByRecursion (λ a. PowersWithin d a.1) (shares_over A mu seg)
     unfolding shares_over
@@ -129,7 +127,7 @@ module _ (Good : List ℕ → Type 0) (A : List ℕ → Vector) (tri : Triangle 
           AllByRecursion (λ a. ProductWithin ((length seg + 1) * d) a.1 (rows A seg a.0 lambda)) (shares_over A mu seg)
       unfolding AllLess
       products_from mu seg gm gs up less =
-          all_mono (λ a. PowersWithin d a.1 × PowersWithin (length seg * d) (rows A seg a.0 lambda))
+          all_weaken (λ a. PowersWithin d a.1 × PowersWithin (length seg * d) (rows A seg a.0 lambda))
           (λ a. ProductWithin ((length seg + 1) * d) a.1 (rows A seg a.0 lambda)) (shares_over A mu seg)
           (λ a h.
           product_within d (length seg * d) ((length seg + 1) * d) a.1 (rows A seg a.0 lambda) (one_more (length seg))
@@ -150,7 +148,7 @@ module _ (Good : List ℕ → Type 0) (A : List ℕ → Vector) (tri : Triangle 
           (powers_plus Near (A mu lambda) (negate taken)
           (within_more d ((length seg + 1) * d) (A mu lambda) (at_least (length seg)) (there mu gm))
           (powers_negate Near taken (powers_sum Near (λ a. times a.1 (rows A seg a.0 lambda)) (shares_over A mu seg)
-          (all_mono (λ a. ProductWithin ((length seg + 1) * d) a.1 (rows A seg a.0 lambda))
+          (all_weaken (λ a. ProductWithin ((length seg + 1) * d) a.1 (rows A seg a.0 lambda))
           (λ a. PowersWithin ((length seg + 1) * d) (times a.1 (rows A seg a.0 lambda))) (shares_over A mu seg)
           (λ a h. within_times ((length seg + 1) * d) a.1 (rows A seg a.0 lambda) h)
           (products_from mu seg gm gs up less)))))
@@ -172,7 +170,7 @@ module _ (Good : List ℕ → Type 0) (A : List ℕ → Vector) (tri : Triangle 
           AllLess mu seg
       unfolding AllLess
       less_from mu seg gs up ih =
-          all_mono (λ a. Good a.0 × Occurs a.0 seg) (λ a. PowersWithin (length seg * d) (rows A seg a.0 lambda))
+          all_weaken (λ a. Good a.0 × Occurs a.0 seg) (λ a. PowersWithin (length seg * d) (rows A seg a.0 lambda))
           (shares_over A mu seg) (λ a h. one a.0 h.0 h.1)
           (all_both (λ a. Good a.0) (λ a. Occurs a.0 seg) (shares_over A mu seg) (by_keys Good mu seg gs)
           (by_keys (λ x. Occurs x seg) mu seg (all_occur seg)))
@@ -198,10 +196,12 @@ module _ (Good : List ℕ → Type 0) (A : List ℕ → Vector) (tri : Triangle 
           row_from mu seg gm gs up (less_from mu seg gs up
           (λ kappa lower lt gk gl ul. near_rows k kappa lower (omega arith) gk gl ul))
 
+      -- The powers of the row lie within the bound times one more than the length of the segment.
       pub near_row : (mu : List ℕ) (seg : List (List ℕ)) → Good mu → AllByRecursion Good seg → Ascending seg →
           PowersWithin ((length seg + 1) * d) (combination A (factors A mu seg) lambda)
       near_row mu seg gm gs up = near_rows (length seg) mu seg (omega arith) gm gs up
 
+      -- So do those of each share times its row.
       pub near_products : (mu : List ℕ) (seg : List (List ℕ)) → Good mu → AllByRecursion Good seg → Ascending seg →
           AllByRecursion (λ a. ProductWithin ((length seg + 1) * d) a.1 (rows A seg a.0 lambda)) (shares_over A mu seg)
       near_products mu seg gm gs up =

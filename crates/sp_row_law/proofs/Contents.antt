@@ -2,18 +2,19 @@
 -- not 0 has a term that is not 0, and there the ladder law of contents applies.
 use Rattle.std.proofs.Common.{◌≡◌, ◌≢◌, ℕ, List, [], ◌∷◌, refl, ◌∙◌, ap, ap₂, ◌⊎◌, inl, inr}
 use Rattle.std.specs.List.{AllByRecursion}
-use Rattle.sp_defs.specs.Partition.{degree, regulars, IsRegularOf}
+use Rattle.sp_defs.specs.Partition.{degree}
 use Rattle.sp_defs.specs.Laurent.{Laurent, collect, plus, negate, times, lift, sum_over}
 use Rattle.sp_defs.specs.Ladder.{ladder_vector}
-use Rattle.sp_defs.specs.Row.{Factors, combination, before, factors, factor_of, shares_over, regular_row, shares}
+use Rattle.sp_defs.specs.Row.{Factors, combination, before, earlier, factors, factor_of, shares_over, regular_row}
+use Rattle.sp_defs.specs.Row.{shares}
 use Rattle.sp_defs.specs.Statements.{IsLabel, SameContent, RowContentLaw}
 use Rattle.sp_algebra.proofs.Laws.{times_nought, nought_times, nought_plus}
 use Rattle.sp_algebra.proofs.Sums.{nonzero_term}
 use Rattle.sp_lists.proofs.Elements.{all_both, nil_or_not}
-use Rattle.sp_shapes.proofs.Order.{all_mono}
 use Rattle.sp_shapes.proofs.Before.{all_kept}
-use Rattle.sp_shapes.proofs.Listing.{all_regulars}
 use Rattle.sp_ladder_law.proofs.Contents.{ladder_content}
+use Rattle.sp_row_law.proofs.Setting.{Good, good_earlier, label}
+use Rattle.sp_lists.proofs.Places.{all_weaken}
 
 -- a combination of ladder vectors whose factors have mu's content, where they are not 0
 combination_content : (e : ℕ) (mu : List ℕ) (fs : Factors) → AllByRecursion (λ f. IsLabel e f.0) fs →
@@ -116,6 +117,7 @@ content-shares e mu (nu ∷ seg) h (k, ks) =
 
 -- ---- the law
 
+-- The partitions in the row of mu, and those with shares, have mu's content.
 pub row_content_law : RowContentLaw
 unfolding regular_row shares
 row_content_law e mu h = record {
@@ -125,10 +127,7 @@ row_content_law e mu h = record {
 }
   where
     seg : List (List ℕ)
-    seg = before mu (regulars e (degree mu))
+    seg = earlier e mu
 
     good : AllByRecursion (IsLabel e) seg
-    good = all_kept (IsLabel e) mu (regulars e (degree mu))
-        (all_mono (IsRegularOf e (degree mu)) (IsLabel e) (regulars e (degree mu))
-        (λ nu g. record { e_least = h.e_least; partition = g.partition; regular = g.regular })
-        (all_regulars e (degree mu)))
+    good = all_weaken (Good e mu) (IsLabel e) seg (λ nu g. label e (degree mu) nu h.e_least g) (good_earlier e mu)

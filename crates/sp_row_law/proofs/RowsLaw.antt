@@ -1,82 +1,30 @@
--- The law of rows: by the ladder law the ladder vectors of the e-regular partitions are a triangle, since dominance
--- implies the lexicographic order. So the algebra of triangles gives the regular row, its uniqueness, and the shares.
-use Rattle.sp_algebra.proofs.Sums.{sum_over-alike}
-use Rattle.std.proofs.Common.{◌≡◌, ◌≢◌, ℕ, suc, ◌<◌, ◌≤◌, List, [], ◌∷◌, ◌++◌, map, take}
-use Rattle.std.proofs.Common.{refl, sym, ◌∙◌, ap, ap₂, subst, arith, sum, ◌⊎◌, inl, inr, Ordering, Less, Equal, Greater}
-use Rattle.std.proofs.Common.{nat_cmp, ℤ, pos, ◌≤ℤ◌}
+-- The law of rows: the ladder vectors of the e-regular partitions are a triangle, and the algebra of triangles gives
+-- the regular row, its uniqueness, and the shares.
+use Rattle.std.proofs.Common.{◌≡◌, ◌≢◌, ℕ, List, [], ◌∷◌, ◌++◌, map}
+use Rattle.std.proofs.Common.{refl, sym, ◌∙◌, ap, ap₂, subst, Ordering, Less, Equal, Greater}
+use Rattle.std.proofs.Common.{ℤ, pos, ◌≤ℤ◌}
 use Rattle.std.specs.List.{AllByRecursion}
-use Rattle.std.specs.Ordering.{MatchOrdering, ordering_then}
-use Rattle.std.specs.Cmp.{ranks}
-use Rattle.std.proofs.lemmas.List.Sums.{sum_by-cons}
-use Rattle.sp_defs.specs.Partition.{degree, IsPartition, compare, regulars, Ascending, IsRegularOf}
-use Rattle.sp_defs.specs.Laurent.{Laurent, coefficient, collect, one, plus, times, IsLaurent, IsBarInvariant}
+use Rattle.sp_defs.specs.Partition.{degree, IsPartition, compare, regulars}
+use Rattle.sp_defs.specs.Laurent.{Laurent, coefficient, collect, one, plus, IsBarInvariant}
 use Rattle.sp_defs.specs.Laurent.{IsPositive, sum_over}
 use Rattle.sp_defs.specs.Power.{Vector}
 use Rattle.sp_defs.specs.Ladder.{ladder_vector}
-use Rattle.sp_defs.specs.Row.{Factors, combination, before, factors, shares_over, regular_row, shares, InSpan}
+use Rattle.sp_defs.specs.Row.{Factors, combination, earlier, factors, shares_over, regular_row, shares, InSpan}
 use Rattle.sp_defs.specs.Statements.{IsLabel, PositiveElsewhere, RowFacts, RowsLaw}
 use Rattle.std.proofs.Common.{append_assoc}
 use Rattle.std.proofs.lemmas.List.{map-append}
-use Rattle.sp_lists.proofs.Elements.{all_append, all_both, nil_or_not}
-use Rattle.sp_shapes.proofs.Order.{less_trans, equal_self, same_lists, all_mono}
-use Rattle.sp_shapes.proofs.Before.{all_before, all_kept, Ascending-before, before_before, after, kept_after, IsCut}
-use Rattle.sp_shapes.proofs.Before.{about}
+use Rattle.sp_lists.proofs.Elements.{all_append, all_both}
+use Rattle.sp_shapes.proofs.Order.{less_trans, equal_self, same_lists}
+use Rattle.sp_shapes.proofs.Before.{all_before, after, kept_after}
 use Rattle.sp_algebra.proofs.Laws.{plus_nought, nought_plus, nought_times, bar_invariant-nought}
-use Rattle.sp_triangle.proofs.Triangle.{Triangle, combination-append, IsLaurent-combination, keys-factors}
+use Rattle.sp_triangle.proofs.Triangle.{combination-append, IsLaurent-combination, keys-factors}
 use Rattle.sp_triangle.proofs.Triangle.{invariant-factors, row_at_mu, row_later, row_positive, same_factors}
 use Rattle.sp_triangle.proofs.Shares.{rows, keys-shares, invariant-shares, from_keys, shares_sum, only_shares}
-use Rattle.sp_shapes.proofs.Listing.{all_regulars, each_regular, regulars_ascend}
-use Rattle.sp_ladder_law.proofs.Chains.{IsLaurent-chain_sum}
-use Rattle.sp_ladder_law.proofs.LadderLaw.{ladder_law}
-use Rattle.sp_shapes.proofs.Diagram.{IsPartition-tail, IsPartition-head}
-
--- ---- dominance implies the lexicographic order
-
--- a partition with greater first sums is not earlier
-not_lower : (xs ys : List ℕ) → IsPartition ys → ((k : ℕ) → sum (take k ys) ≤ sum (take k xs)) → compare xs ys ≢ Less
-not_lower [] [] py f e = cc
-not_lower [] (y ∷ ys) py f e =
-    absurd (let h : sum (y ∷ []) ≤ 0 = f 1 in omega (arith, h, sum_by-cons (λ x. x) y [], IsPartition-head y ys py))
-not_lower (x ∷ xs) [] py f e = cc
-not_lower (x ∷ xs) (y ∷ ys) py f e = settle (nat_cmp x y) (ranks x y) (not_lower xs ys (IsPartition-tail y ys py)) e
-  where
-    first : sum (y ∷ []) ≤ sum (x ∷ [])
-    first = f 1
-
-    rest : x ≡ y → (k : ℕ) → sum (take k ys) ≤ sum (take k xs)
-    rest s k =
-        let h : sum (y ∷ take k ys) ≤ sum (x ∷ take k xs) = f (suc k) in
-        omega (arith, h, s, sum_by-cons (λ x. x) y (take k ys), sum_by-cons (λ x. x) x (take k xs))
-
-    settle : (o : Ordering) → MatchOrdering o (x < y) (x ≡ y) (y < x) →
-        (((k : ℕ) → sum (take k ys) ≤ sum (take k xs)) → compare xs ys ≢ Less) →
-        ordering_then o (compare xs ys) ≡ Less → ⊥
-    settle Less lt more e = omega (arith, first, sum_by-cons (λ x. x) y [], sum_by-cons (λ x. x) x [])
-    settle Equal s more e = more (rest s) e
-    settle Greater gt more e = cc
-
--- ---- the ladder vectors are a triangle
-
-label : (e n : ℕ) (nu : List ℕ) → 2 ≤ e → IsRegularOf e n nu → IsLabel e nu
-label e n nu he h = record { e_least = he; partition = h.partition; regular = h.regular }
-
-pub ladder_triangle : (e n : ℕ) → 2 ≤ e → Triangle (IsRegularOf e n) (ladder_vector e)
-ladder_triangle e n he = record {
-  diagonal = λ nu g. (ladder_law e nu (label e n nu he g)).at_mu;
-  later = λ nu lambda g h lt. settle nu lambda g h lt (nil_or_not (ladder_vector e nu lambda));
-}
-  where
-    settle : (nu lambda : List ℕ) → IsRegularOf e n nu → IsRegularOf e n lambda → compare nu lambda ≡ Less →
-        (ladder_vector e nu lambda ≡ []) ⊎ (ladder_vector e nu lambda ≢ []) → ladder_vector e nu lambda ≡ []
-    settle nu lambda g h lt (inl z) = z
-    settle nu lambda g h lt (inr ne) =
-        absurd
-        (not_lower nu lambda h.partition ((ladder_law e nu (label e n nu he g)).below lambda h.partition ne).sums
-        lt)
-
-pub IsLaurent-ladder_vector : (e : ℕ) (nu lambda : List ℕ) → IsLaurent (ladder_vector e nu lambda)
-unfolding ladder_vector
-IsLaurent-ladder_vector e nu lambda = IsLaurent-chain_sum e _ lambda
+use Rattle.sp_shapes.proofs.Listing.{all_regulars, regulars_ascend}
+use Rattle.sp_row_law.proofs.Setting.{Good, IsBefore, good, good_earlier, earlier_before, earlier_ascends, cut}
+use Rattle.sp_row_law.proofs.Setting.{triangle}
+use Rattle.sp_row_law.proofs.Setting.{rows_same, IsLaurent-ladder_vector}
+use Rattle.sp_lists.proofs.Places.{all_weaken}
 
 -- ---- factors that are 0
 
@@ -120,9 +68,6 @@ agree_all v w mu (nu ∷ rs) a b (p, ps) (q, qs) = (here (compare nu mu) refl, a
 -- ---- the row of one label
 
 module _ (e : ℕ) (mu : List ℕ) (is : IsLabel e mu) where
-  abbrev Good : List ℕ → Type 0
-  Good = IsRegularOf e (degree mu)
-
   abbrev A : List ℕ → Vector
   A = ladder_vector e
 
@@ -131,28 +76,13 @@ module _ (e : ℕ) (mu : List ℕ) (is : IsLabel e mu) where
   rs = regulars e (degree mu)
 
   abbrev seg : List (List ℕ)
-  seg = before mu rs
+  seg = earlier e mu
 
   abbrev past : List (List ℕ)
   past = after mu rs
 
-  tri : Triangle Good A
-  tri = ladder_triangle e (degree mu) is.e_least
-
-  good : Good mu
-  good = record { partition = is.partition; total = refl; regular = is.regular }
-
-  good_seg : AllByRecursion Good seg
-  good_seg = all_kept Good mu rs (all_regulars e (degree mu))
-
-  good_past : AllByRecursion Good past
-  good_past = kept_after Good mu rs (all_regulars e (degree mu))
-
-  seg_ascends : Ascending seg
-  seg_ascends = Ascending-before mu rs (regulars_ascend e (degree mu))
-
-  cut_at_mu : IsCut mu rs
-  cut_at_mu = about mu rs (regulars_ascend e (degree mu)) (each_regular e (degree mu) mu good)
+  good_past : AllByRecursion (Good e mu) past
+  good_past = kept_after (Good e mu) mu rs (all_regulars e (degree mu))
 
   -- ---- the row is in the span: its factors, and 0 after mu
 
@@ -165,7 +95,7 @@ module _ (e : ℕ) (mu : List ℕ) (is : IsLabel e mu) where
       map-append (λ f. f.0) (factors A mu seg) (zeros past)
       ∙ ap₂ (λ x y. x ++ y) (keys-factors A mu seg) (keys-zeros past)
       ∙ append_assoc seg (mu ∷ []) past
-      ∙ sym cut_at_mu.whole
+      ∙ sym (cut e mu is).whole
 
   full_invariant : AllByRecursion (λ f. IsBarInvariant f.1) full
   unfolding full
@@ -183,30 +113,31 @@ module _ (e : ℕ) (mu : List ℕ) (is : IsLabel e mu) where
 
   own : regular_row e mu mu ≡ one
   unfolding regular_row
-  own = row_at_mu Good A tri mu seg good good_seg (all_before mu rs)
+  own = row_at_mu (Good e mu) A (triangle e mu is) mu seg (good e mu is) (good_earlier e mu) (all_before mu rs)
 
-  later_nought : (nu : List ℕ) → Good nu → compare mu nu ≡ Less → regular_row e mu nu ≡ []
+  later_nought : (nu : List ℕ) → Good e mu nu → compare mu nu ≡ Less → regular_row e mu nu ≡ []
   unfolding regular_row
-  later_nought nu g h = row_later Good A tri mu seg nu good good_seg g h
-      (all_mono (λ x. compare x mu ≡ Less) (λ x. compare x nu ≡ Less) seg (λ x k. less_trans x mu nu k h)
+  later_nought nu g h = row_later (Good e mu) A (triangle e mu is) mu seg nu (good e mu is) (good_earlier e mu) g h
+      (all_weaken (λ x. compare x mu ≡ Less) (λ x. compare x nu ≡ Less) seg (λ x k. less_trans x mu nu k h)
       (all_before mu rs))
 
   positive : PositiveElsewhere e mu (regular_row e mu)
   unfolding regular_row coefficient
-  positive = subst (AllByRecursion Elsewhere) (sym cut_at_mu.whole)
+  positive = subst (AllByRecursion Elsewhere) (sym (cut e mu is).whole)
       (all_append Elsewhere seg (mu ∷ past) earlier ((λ ne. absurd (ne refl)), later))
     where
       Elsewhere : List ℕ → Type 0
       Elsewhere nu = nu ≢ mu → IsPositive (regular_row e mu nu)
 
       earlier : AllByRecursion Elsewhere seg
-      earlier = all_mono (λ nu. IsPositive (regular_row e mu nu)) Elsewhere seg (λ nu p _. p)
-          (row_positive Good A tri mu seg good good_seg seg_ascends)
+      earlier = all_weaken (λ nu. IsPositive (regular_row e mu nu)) Elsewhere seg (λ nu p _. p)
+          (row_positive (Good e mu) A (triangle e mu is) mu seg (good e mu is) (good_earlier e mu)
+          (earlier_ascends e mu))
 
       later : AllByRecursion Elsewhere past
-      later = all_mono (λ nu. Good nu × (compare mu nu ≡ Less)) Elsewhere past
+      later = all_weaken (λ nu. Good e mu nu × (compare mu nu ≡ Less)) Elsewhere past
           (λ nu k _. subst (λ p. IsPositive p) (sym (later_nought nu k.0 k.1)) (λ j low. refl))
-          (all_both Good (λ nu. compare mu nu ≡ Less) past good_past cut_at_mu.later)
+          (all_both (Good e mu) (λ nu. compare mu nu ≡ Less) past good_past (cut e mu is).later)
 
   -- ---- no other vector of the span is like it
 
@@ -221,7 +152,7 @@ module _ (e : ℕ) (mu : List ℕ) (is : IsLabel e mu) where
       rows_agree : AllByRecursion (λ nu. Agree (w nu) (regular_row e mu nu)) rs
       rows_agree = agree_all w (regular_row e mu) mu rs at_mu own pos_ positive
 
-      combinations_agree : (nu : List ℕ) → Good nu × Agree (w nu) (regular_row e mu nu) →
+      combinations_agree : (nu : List ℕ) → Good e mu nu × Agree (w nu) (regular_row e mu nu) →
           Agree (combination A span.factors_of nu) (combination A full nu)
       combinations_agree nu (g, a) j low =
           ap (λ x. coefficient x j) (sym (span.sum nu g.partition))
@@ -229,34 +160,19 @@ module _ (e : ℕ) (mu : List ℕ) (is : IsLabel e mu) where
           ∙ ap (λ x. coefficient x j) (full_row nu)
 
       same : span.factors_of ≡ full
-      same = same_factors Good A tri rs span.factors_of full (all_regulars e (degree mu))
+      same = same_factors (Good e mu) A (triangle e mu is) rs span.factors_of full (all_regulars e (degree mu))
           (regulars_ascend e (degree mu)) span.keys full_keys span.invariant full_invariant
-          (all_mono (λ nu. Good nu × Agree (w nu) (regular_row e mu nu))
+          (all_weaken (λ nu. Good e mu nu × Agree (w nu) (regular_row e mu nu))
           (λ nu. Agree (combination A span.factors_of nu) (combination A full nu)) rs combinations_agree
-          (all_both Good (λ nu. Agree (w nu) (regular_row e mu nu)) rs (all_regulars e (degree mu)) rows_agree))
+          (all_both (Good e mu) (λ nu. Agree (w nu) (regular_row e mu nu)) rs (all_regulars e (degree mu)) rows_agree))
 
-  -- ---- the rows of the triangle are the regular rows
+  -- ---- the shares
 
-  row_same : (kappa lambda : List ℕ) → Good kappa → compare kappa mu ≡ Less →
-      rows A seg kappa lambda ≡ regular_row e kappa lambda
-  unfolding regular_row
-  row_same kappa lambda g lt =
-      ap (λ s. combination A (factors A kappa s) lambda)
-      (before_before kappa mu rs lt ∙ ap (λ d. before kappa (regulars e d)) (sym g.total))
-
-  -- so any factors with the keys of the shares give the same with either
+  -- factors with the keys of the shares give the same with the rows of the triangle and with the regular rows
   keyed_same : (fs : Factors) (lambda : List ℕ) → map (λ f. f.0) fs ≡ seg →
       combination (rows A seg) fs lambda ≡ combination (regular_row e) fs lambda
-  unfolding combination
-  keyed_same fs lambda k = sum_over-alike fs _ _
-      (all_mono (λ f. Good f.0 × (compare f.0 mu ≡ Less))
-      (λ f. times f.1 (rows A seg f.0 lambda) ≡ times f.1 (regular_row e f.0 lambda)) fs
-      (λ f h. ap (times f.1) (row_same f.0 lambda h.0 h.1))
-      (all_both (λ f. Good f.0) (λ f. compare f.0 mu ≡ Less) fs (by_keys Good good_seg)
-      (by_keys (λ x. compare x mu ≡ Less) (all_before mu rs))))
-    where
-      by_keys : (P : List ℕ → Type 0) → AllByRecursion P seg → AllByRecursion (λ f. P f.0) fs
-      by_keys P h = from_keys P fs (subst (λ ks. AllByRecursion P ks) (sym k) h)
+  keyed_same fs lambda k = rows_same e mu fs lambda
+      (from_keys (IsBefore e mu) fs (subst (AllByRecursion (IsBefore e mu)) (sym k) (earlier_before e mu)))
 
   shares_give_back : (lambda : List ℕ) →
       A mu lambda ≡ plus (regular_row e mu lambda) (combination (regular_row e) (shares e mu) lambda)
@@ -264,7 +180,7 @@ module _ (e : ℕ) (mu : List ℕ) (is : IsLabel e mu) where
   shares_give_back lambda = sym
       (ap (plus (combination A (factors A mu seg) lambda))
       (sym (keyed_same (shares_over A mu seg) lambda (keys-shares A mu seg)))
-      ∙ shares_sum A (IsLaurent-ladder_vector e) mu seg lambda seg_ascends)
+      ∙ shares_sum A (IsLaurent-ladder_vector e) mu seg lambda (earlier_ascends e mu))
 
   only_these : (others : Factors) → map (λ a. a.0) others ≡ seg → AllByRecursion (λ a. IsBarInvariant a.1) others →
       ((lambda : List ℕ) → IsPartition lambda →
@@ -272,10 +188,12 @@ module _ (e : ℕ) (mu : List ℕ) (is : IsLabel e mu) where
       others ≡ shares e mu
   unfolding regular_row shares
   only_these others k b f =
-      only_shares Good A tri (IsLaurent-ladder_vector e) mu seg good_seg seg_ascends others k b
+      only_shares (Good e mu) A (triangle e mu is) (IsLaurent-ladder_vector e) mu seg (good_earlier e mu)
+      (earlier_ascends e mu) others k b
       (λ lambda g.
       ap (plus (combination A (factors A mu seg) lambda)) (keyed_same others lambda k) ∙ sym (f lambda g.partition))
 
+  -- the law of rows for mu
   pub row_facts : RowFacts e mu
   unfolding shares
   row_facts = record {
@@ -285,12 +203,13 @@ module _ (e : ℕ) (mu : List ℕ) (is : IsLabel e mu) where
     elsewhere = positive;
     only = only_row;
     row_is = λ w r. only_row w r.in_span r.at_mu
-        (all_mono Good (λ nu. nu ≢ mu → IsPositive (w nu)) rs (λ nu g. r.elsewhere nu g.partition)
+        (all_weaken (Good e mu) (λ nu. nu ≢ mu → IsPositive (w nu)) rs (λ nu g. r.elsewhere nu g.partition)
         (all_regulars e (degree mu)));
     shares_invariant = invariant-shares A mu seg;
     shares_sum = shares_give_back;
     shares_only = only_these;
   }
 
+-- The law of rows for all e and mu.
 pub rows_law : RowsLaw
 rows_law e mu h = row_facts e mu h

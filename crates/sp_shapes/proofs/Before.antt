@@ -9,10 +9,12 @@ use Rattle.sp_shapes.proofs.Listing.{Occurs, at_occurs}
 
 -- ---- one element more in front
 
+-- an earlier partition in front stays
 pub before_keep : (nu kappa : List ℕ) (seg : List (List ℕ)) → compare nu kappa ≡ Less →
     before kappa (nu ∷ seg) ≡ nu ∷ before kappa seg
 before_keep nu kappa seg h = ap (λ o. cond (is_lt o) (nu ∷ before kappa seg) (before kappa seg)) h
 
+-- one that is not earlier goes
 pub before_skip : (nu kappa : List ℕ) (seg : List (List ℕ)) (o : Ordering) → compare nu kappa ≡ o → is_lt o ≡ false →
     before kappa (nu ∷ seg) ≡ before kappa seg
 before_skip nu kappa seg o h n =
@@ -21,12 +23,14 @@ before_skip nu kappa seg o h n =
 
 -- ---- nothing before the first
 
+-- where it is earlier than all of the list, nothing is before it
 pub before_none : (nu : List ℕ) (seg : List (List ℕ)) → AllByRecursion (λ kappa. compare nu kappa ≡ Less) seg →
     before nu seg ≡ []
 before_none nu [] h = refl
 before_none nu (kappa ∷ seg) (h, hs) =
     before_skip kappa nu seg Greater (later_than nu kappa h) refl ∙ before_none nu seg hs
 
+-- so too where it stands in front
 pub before_self : (nu : List ℕ) (seg : List (List ℕ)) → AllByRecursion (λ kappa. compare nu kappa ≡ Less) seg →
     before nu (nu ∷ seg) ≡ []
 before_self nu seg h = before_skip nu nu seg Equal (equal_self nu) refl ∙ before_none nu seg h
@@ -62,6 +66,7 @@ all_kept P mu (nu ∷ rs) (h, hs) = tested (is_lt (compare nu mu)) (all_kept P m
     tested true rest = (h, rest)
     tested false rest = rest
 
+-- they ascend, as the list does
 pub Ascending-before : (mu : List ℕ) (rs : List (List ℕ)) → Ascending rs → Ascending (before mu rs)
 Ascending-before mu [] h = tt
 Ascending-before mu (nu ∷ rs) (h, hs) = tested (is_lt (compare nu mu)) (Ascending-before mu rs hs)
@@ -106,6 +111,7 @@ after_all mu (nu ∷ rs) (h, hs) =
     ap (λ o. cond (is_gt o) (nu ∷ after mu rs) (after mu rs)) (later_than mu nu h)
     ∙ ap (λ r. nu ∷ r) (after_all mu rs hs)
 
+-- what holds of all holds of them
 pub kept_after : (P : List ℕ → Type 0) (mu : List ℕ) (rs : List (List ℕ)) → AllByRecursion P rs →
     AllByRecursion P (after mu rs)
 kept_after P mu [] h = tt
@@ -117,10 +123,12 @@ kept_after P mu (nu ∷ rs) (h, hs) = tested (is_gt (compare nu mu)) (kept_after
 
 -- ---- the list is those before, the partition itself, and those after
 
+-- the list in three: before mu, mu, and after mu
 pub record IsCut (mu : List ℕ) (rs : List (List ℕ)) : Type 0 where
   pub whole : rs ≡ before mu rs ++ (mu ∷ after mu rs)
   pub later : AllByRecursion (λ nu. compare mu nu ≡ Less) (after mu rs)
 
+-- a list that ascends is cut so at each of its partitions
 pub about : (mu : List ℕ) (rs : List (List ℕ)) → Ascending rs → Occurs mu rs → IsCut mu rs
 about mu [] up o = absurd o
 about mu (y ∷ rs) (u, us) (inl e) = subst (λ w. IsCut mu (w ∷ rs)) e (record {

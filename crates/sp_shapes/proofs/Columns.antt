@@ -12,10 +12,12 @@ use Rattle.sp_shapes.proofs.Regular.{descends}
 abbrev pub column : List ℕ → ℕ → ℕ
 column parts c = count_by (λ p. nat_le c p) parts
 
+-- a row of the conjugate is a column
 pub part-conjugate : (parts : List ℕ) (c : ℕ) → 1 ≤ c → c ≤ part parts 1 → part (conjugate parts) c ≡ column parts c
 part-conjugate parts c lo hi =
     get_or-map-range_with_len (column parts) 1 (part parts 1) (c - 1) c 0 (omega arith) (omega arith)
 
+-- no row is longer than the first
 pub first_longest : (parts : List ℕ) (r : ℕ) → IsPartition parts → part parts r ≤ part parts 1
 first_longest parts r h = subst (λ n. slice_index parts n ≤ part parts 1) (omega arith) (descends parts h 0 (r - 1))
 
@@ -33,10 +35,12 @@ column_past (p ∷ parts) (suc k) c h lo hi =
     let wide : c ≤ p = omega (arith, longest) in
     omega (arith, counts_one c p parts wide, column_past parts k c (IsPartition-tail p parts h) lo hi)
 
+-- a column goes down to each row that is long enough
 pub column_reaches : (parts : List ℕ) (r c : ℕ) → IsPartition parts → 1 ≤ r → 1 ≤ c → c ≤ part parts r
     → r ≤ column parts c
 column_reaches parts r c h row lo hi = omega (arith, column_past parts (r - 1) c h lo hi)
 
+-- the hook of a node, by its row and its column
 pub hook-column : (parts : List ℕ) (r c : ℕ) → IsPartition parts → Inside parts r c
     → hook parts (r, c) ≡ (part parts r - c) + (column parts c - r) + 1
 hook-column parts r c h node =

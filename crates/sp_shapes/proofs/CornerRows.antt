@@ -84,6 +84,7 @@ nodes_rows_from parts r (p ∷ rest) is =
     row : ℕ → List Node
     row q = map (λ c. (q, c)) (from_one_to (part parts q))
 
+-- the nodes are those of the rows, one row after the other
 pub nodes-rows : (parts : List ℕ) →
     nodes parts ≡ flat_map (λ r. map (λ c. (r, c)) (from_one_to (part parts r))) (from_one_to (length parts))
 nodes-rows parts = nodes_rows_from parts 1 parts (λ k lt. ap (slice_index parts) (omega arith))

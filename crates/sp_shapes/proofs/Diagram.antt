@@ -14,6 +14,7 @@ use Rattle.sp_lists.proofs.Elements.{map_all, range_all, range_at}
 
 -- ---- a partition's tail, and its parts by recursion
 
+-- without its first part it is a partition
 pub IsPartition-tail : (p : ℕ) (parts : List ℕ) → IsPartition (p ∷ parts) → IsPartition parts
 IsPartition-tail p parts h = record {
   descending = λ k. subst (λ n. slice_index (p ∷ parts) n ≤ slice_index parts k) (moved k) (h.descending (suc k));
@@ -23,6 +24,7 @@ IsPartition-tail p parts h = record {
     moved : (k : ℕ) → suc k + 1 ≡ suc (k + 1)
     moved k = omega arith
 
+-- the first part is not 0
 pub IsPartition-head : (p : ℕ) (parts : List ℕ) → IsPartition (p ∷ parts) → 0 < p
 IsPartition-head p parts h = h.positive 0 0 (omega arith)
 
@@ -54,6 +56,7 @@ nodes_all P r (p ∷ parts) f =
     moved : (r k : ℕ) → r + suc k ≡ suc r + k
     moved r k = omega arith
 
+-- what holds of all nodes of the rows from r on holds of each
 pub nodes_at : (P : Node → Type 0) (r : ℕ) (parts : List ℕ) → AllByRecursion P (nodes_from r parts) → (k c : ℕ) →
     1 ≤ c → c ≤ slice_index parts k → P (r + k, c)
 unfolding nodes_from
@@ -71,21 +74,25 @@ nodes_at P r (p ∷ parts) h (suc k) c lo hi = subst (λ n. P (n, c)) (moved r k
 
 -- ---- membership: the test, as inequalities
 
+-- a place within its row is in the diagram
 pub in_node : (parts : List ℕ) (r c : ℕ) → 1 ≤ r → 1 ≤ c → c ≤ part parts r → in_diagram parts (r, c) ≡ true
 in_node parts r c hr hc h = and_join (nat_le 1 r) (nat_le 1 c && nat_le c (part parts r)) (le-leb 1 r hr)
     (and_join (nat_le 1 c) (nat_le c (part parts r)) (le-leb 1 c hc) (le-leb c (part parts r) h))
 
+-- what it says of a place that it is in the diagram
 pub record Inside (parts : List ℕ) (r c : ℕ) : Type 0 where
   pub row : 1 ≤ r
   pub column : 1 ≤ c
   pub within : c ≤ part parts r
 
+-- a place in the diagram is within its row
 pub node_in : (parts : List ℕ) (r c : ℕ) → in_diagram parts (r, c) ≡ true → Inside parts r c
 node_in parts r c h =
     let p = and_split (nat_le 1 r) (nat_le 1 c && nat_le c (part parts r)) h in
     let q = and_split (nat_le 1 c) (nat_le c (part parts r)) p.1 in
     record { row = leb-true 1 r p.0; column = leb-true 1 c q.0; within = leb-true c (part parts r) q.1 }
 
+-- a place outside of the diagram is past the end of its row
 pub node_out : (parts : List ℕ) (r c : ℕ) → 1 ≤ r → 1 ≤ c → in_diagram parts (r, c) ≡ false → part parts r < c
 node_out parts r c hr hc h =
     leb-false c (part parts r)
@@ -99,6 +106,7 @@ at_node P parts h r c hr hc w = subst (λ n. P (n, c)) (back r hr) (nodes_at P 1
     back : (r : ℕ) → 1 ≤ r → 1 + (r - 1) ≡ r
     back r h = omega arith
 
+-- what holds of each row and column of the diagram holds of all nodes
 pub all_nodes : (P : Node → Type 0) (parts : List ℕ) → ((r c : ℕ) → 1 ≤ r → 1 ≤ c → c ≤ part parts r → P (r, c)) →
     AllByRecursion P (nodes parts)
 all_nodes P parts f =

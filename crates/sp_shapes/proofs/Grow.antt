@@ -1,6 +1,6 @@
 -- One node more at the end of a row.
 use Rattle.std.proofs.Common.{◌≡◌, ◌≢◌, ℕ, zero, suc, ◌+◌, ◌-◌, ◌<◌, ◌≤◌, List, [], ◌∷◌, ◌++◌, map, length, refl, sym}
-use Rattle.std.proofs.Common.{◌∙◌, ap, ap₂, subst, arith, sum, slice_index, ◌⊎◌, inl, inr}
+use Rattle.std.proofs.Common.{max, ◌∙◌, ap, ap₂, subst, arith, sum, slice_index, ◌⊎◌, inl, inr}
 use Rattle.std.specs.List.{range_with_len}
 use Rattle.std.proofs.Common.{append_assoc}
 use Rattle.std.proofs.lemmas.List.Sums.{sum_by-cons}
@@ -27,6 +27,7 @@ room-tail x xs k h =
     moved : (k : ℕ) → 0 < k → slice_index (x ∷ xs) (suc k - 1) ≡ slice_index xs (k - 1)
     moved k w = let e : suc k - 1 ≡ suc (k - 1) = omega arith in ap (slice_index (x ∷ xs)) e
 
+-- the other rows stay
 pub grow_other : (xs : List ℕ) (k j : ℕ) → j ≢ k → slice_index (grow k xs) j ≡ slice_index xs j
 unfolding grow
 grow_other [] zero zero ne = absurd (ne refl)
@@ -37,6 +38,7 @@ grow_other (x ∷ xs) zero (suc j) ne = refl
 grow_other (x ∷ xs) (suc k) zero ne = refl
 grow_other (x ∷ xs) (suc k) (suc j) ne = grow_other xs k j (λ e. ne (ap suc e))
 
+-- row k gains one
 pub grow_same : (xs : List ℕ) (k : ℕ) → k ≤ length xs → slice_index (grow k xs) k ≡ slice_index xs k + 1
 unfolding grow
 grow_same [] zero h = refl
@@ -44,6 +46,7 @@ grow_same [] (suc k) h = absurd (omega arith)
 grow_same (x ∷ xs) zero h = omega arith
 grow_same (x ∷ xs) (suc k) h = grow_same xs k (omega arith)
 
+-- it is a partition again
 pub IsPartition-grow : (xs : List ℕ) (k : ℕ) → IsPartition xs → Room xs k → IsPartition (grow k xs)
 unfolding grow
 IsPartition-grow [] zero h r = IsPartition-cons 1 [] (omega arith) (omega arith) IsPartition-nil
@@ -75,6 +78,7 @@ IsPartition-grow (x ∷ xs) (suc k) h r =
         one k = omega arith
     low (inr w) = omega (arith, grow_other xs k 0 (λ e. omega arith), d)
 
+-- a row within the list is not empty
 pub full_rows : (xs : List ℕ) (j : ℕ) → IsPartition xs → j < length xs → 0 < slice_index xs j
 full_rows xs j h lt = h.positive j 0 lt
 
@@ -86,6 +90,14 @@ degree-grow [] (suc k) h = absurd (omega arith)
 degree-grow (x ∷ xs) zero h = omega (arith, sum_by-cons (λ n. n) (suc x) xs, sum_by-cons (λ n. n) x xs)
 degree-grow (x ∷ xs) (suc k) h =
     omega (arith, sum_by-cons (λ n. n) x (grow k xs), sum_by-cons (λ n. n) x xs, degree-grow xs k (omega arith))
+
+-- there is one row more where the row below the last grows
+pub length-grow : (xs : List ℕ) (k : ℕ) → k ≤ length xs → length (grow k xs) ≡ max (length xs) (k + 1)
+unfolding grow
+length-grow [] zero h = refl
+length-grow [] (suc k) h = absurd (omega arith)
+length-grow (x ∷ xs) zero h = omega arith
+length-grow (x ∷ xs) (suc k) h = omega (arith, length-grow xs k (omega arith))
 
 -- ---- the list of nodes has one more
 
@@ -110,6 +122,7 @@ row_longer r a (suc p) =
     moved : (a p : ℕ) → a + 1 + p ≡ a + suc p
     moved a p = omega arith
 
+-- the node is put in between those of the smaller diagram
 pub nodes-grow : (r : ℕ) (xs : List ℕ) (k : ℕ) → k ≤ length xs →
     OneMore (r + k, slice_index xs k + 1) (nodes_from r xs) (nodes_from r (grow k xs))
 unfolding grow nodes_from

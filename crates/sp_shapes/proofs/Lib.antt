@@ -4,10 +4,14 @@ pub mod Listing
 pub mod Moves
 pub mod Residues
 pub mod Regular
+pub mod RowRegular
 pub mod Grow
+pub mod Shrink
 pub mod Within
 pub mod Degrees
 pub mod Before
 pub mod Corners
 pub mod CornerRows
 pub mod Columns
+pub mod Conjugates
+pub mod Involution

@@ -3,76 +3,27 @@
 use Rattle.std.proofs.Common.{◌≡◌, ℕ, zero, suc, ◌+◌, ◌-◌, ◌*◌, ◌/◌, ◌<◌, ◌≤◌, Bool, true, false, cond, nat_eq, List}
 use Rattle.std.proofs.Common.{[], ◌∷◌, ◌++◌, map, filter, flat_map, replicate, length, refl, sym, ◌∙◌, ap, ap₂, subst}
 use Rattle.std.proofs.Common.{arith, sum, slice_index, ◌⊎◌, inl, inr, eqb-true, eq-eqb, lt-ltb, Less, Equal, Greater}
-use Rattle.std.proofs.Common.{nat_cmp, eq-or-lt_of_le, le-div_iff_mul-le, zero-lt-suc, div-mul-le_self, le_trans}
-use Rattle.std.proofs.Common.{mul-le-mul_right}
+use Rattle.std.proofs.Common.{nat_cmp, le-div_iff_mul-le, zero-lt-suc, div-mul-le_self, le_trans}
+use Rattle.std.proofs.Common.{mul-le-mul_right, ◌↔◌, Contains}
 use Rattle.std.specs.List.{AllByRecursion, range_with_len}
 use Rattle.std.specs.Ordering.{ordering_then}
 use Rattle.std.proofs.lemmas.List.Sums.{sum_by-cons}
 use Rattle.sp_defs.specs.Partition.{IsPartitionOf, IsRegularOf, degree, IsPartition, compare, partitions}
 use Rattle.sp_defs.specs.Partition.{partitions_within, is_regular, regulars, Ascending, IsEarlier}
 use Rattle.sp_lists.proofs.Elements.{all_append, all_every, all_map, all_flat, all_filter, range_all, le_or_lt}
-use Rattle.sp_shapes.proofs.Order.{all_mono}
+pub use Rattle.sp_lists.proofs.Occurrence.{Occurs, at_occurs, occurs_left, occurs_right, occurs_map, occurs_flat}
+pub use Rattle.sp_lists.proofs.Occurrence.{occurs_filter, occurs_range}
+use Rattle.sp_lists.proofs.Occurrence.{contains, occurs}
+use Rattle.sp_lists.proofs.Places.{all_weaken}
 use Rattle.sp_shapes.proofs.Diagram.{IsPartition-tail, IsPartition-head}
-
--- ---- occurrence
-
--- x is one of the elements
-abbrev pub Occurs : {X : Type 0} → X → List X → Type 0
-Occurs x [] = ⊥
-Occurs x (y ∷ ys) = (x ≡ y) ⊎ Occurs x ys
-
--- what holds of each element holds of one that occurs
-pub at_occurs : {X : Type 0} (P : X → Type 0) (x : X) (xs : List X) → Occurs x xs → AllByRecursion P xs → P x
-at_occurs P x (y ∷ xs) (inl e) (h, hs) = subst P (sym e) h
-at_occurs P x (y ∷ xs) (inr o) (h, hs) = at_occurs P x xs o hs
-at_occurs P x [] o h = absurd o
-
--- in joined, mapped, nested and filtered lists, and in ranges
-pub occurs_left : {X : Type 0} (x : X) (xs ys : List X) → Occurs x xs → Occurs x (xs ++ ys)
-occurs_left x (y ∷ xs) ys (inl e) = inl e
-occurs_left x (y ∷ xs) ys (inr h) = inr (occurs_left x xs ys h)
-occurs_left x [] ys h = absurd h
-
-pub occurs_right : {X : Type 0} (x : X) (xs ys : List X) → Occurs x ys → Occurs x (xs ++ ys)
-occurs_right x [] ys h = h
-occurs_right x (y ∷ xs) ys h = inr (occurs_right x xs ys h)
-
-pub occurs_map : {X Y : Type 0} (f : X → Y) (x : X) (xs : List X) → Occurs x xs → Occurs (f x) (map f xs)
-occurs_map f x [] h = absurd h
-occurs_map f x (y ∷ xs) (inl e) = inl (ap f e)
-occurs_map f x (y ∷ xs) (inr h) = inr (occurs_map f x xs h)
-
-pub occurs_flat : {X Y : Type 0} (f : X → List Y) (a : X) (xs : List X) (y : Y) → Occurs a xs → Occurs y (f a) →
-    Occurs y (flat_map f xs)
-occurs_flat f a [] y h k = absurd h
-occurs_flat f a (x ∷ xs) y (inl e) k = occurs_left y (f x) (flat_map f xs) (subst (λ b. Occurs y (f b)) e k)
-occurs_flat f a (x ∷ xs) y (inr h) k = occurs_right y (f x) (flat_map f xs) (occurs_flat f a xs y h k)
-
-pub occurs_filter : {X : Type 0} (t : X → Bool) (x : X) (xs : List X) → t x ≡ true → Occurs x xs →
-    Occurs x (filter t xs)
-occurs_filter t x [] e h = absurd h
-occurs_filter t x (y ∷ xs) e (inl s) =
-    subst (λ b. Occurs x (cond b (y ∷ filter t xs) (filter t xs))) (sym (ap t (sym s) ∙ e)) (inl s)
-occurs_filter t x (y ∷ xs) e (inr h) = tested (t y) (occurs_filter t x xs e h)
-  where
-    tested : (b : Bool) → Occurs x (filter t xs) → Occurs x (cond b (y ∷ filter t xs) (filter t xs))
-    tested true o = inr o
-    tested false o = o
-
-pub occurs_range : (c a n : ℕ) → a ≤ c → c < a + n → Occurs c (range_with_len a n)
-occurs_range c a zero lo hi = absurd (omega arith)
-occurs_range c a (suc n) lo hi = step (occurs_range c (a + 1) n) (eq-or-lt_of_le lo)
-  where
-    step : (a + 1 ≤ c → c < a + 1 + n → Occurs c (range_with_len (a + 1) n)) → (a ≡ c) ⊎ (a < c) →
-        (c ≡ a) ⊎ Occurs c (range_with_len (a + 1) n)
-    step more (inl e) = inl (sym e)
-    step more (inr l) = inr (more (omega arith) (omega arith))
 
 -- ---- the empty partition, and one part more in front
 
+-- no parts make a partition
 pub IsPartition-nil : IsPartition []
 IsPartition-nil = record { descending = λ k. omega arith; positive = λ k d h. absurd (omega arith) }
 
+-- a part in front that is as great as the first makes a partition
 pub IsPartition-cons : (p : ℕ) (parts : List ℕ) → 0 < p → slice_index parts 0 ≤ p → IsPartition parts →
     IsPartition (p ∷ parts)
 IsPartition-cons p parts hp hd h = record { descending = down; positive = above_0 }
@@ -122,6 +73,7 @@ block (suc k) p m n rest hp hm h =
     more : (k p n : ℕ) → p + (k * p + n) ≡ suc k * p + n
     more k p n = omega arith
 
+-- each entry is a partition of n with parts at most m
 pub all_within : (m n : ℕ) → AllByRecursion (Fits m n) (partitions_within m n)
 unfolding partitions_within
 all_within zero n = tested (nat_eq n 0) refl
@@ -149,7 +101,7 @@ all_within (suc m) n =
         AllByRecursion (Fits m (n - k * suc m)) (partitions_within m (n - k * suc m)) →
         AllByRecursion (Fits (suc m) n) (blocks m n k)
     one_block k few h = all_map (Fits (suc m) n) (with_block k (suc m)) (partitions_within m (n - k * suc m))
-        (all_mono (Fits m (n - k * suc m)) (λ rest. Fits (suc m) n (with_block k (suc m) rest))
+        (all_weaken (Fits m (n - k * suc m)) (λ rest. Fits (suc m) n (with_block k (suc m) rest))
         (partitions_within m (n - k * suc m)) (one k few) h)
 
 -- ---- each partition occurs
@@ -203,6 +155,7 @@ strip m (p ∷ parts) h w = settle (strip m parts (IsPartition-tail p parts h)) 
             sides : (m k s : ℕ) → suc m + (k * suc m + s) ≡ suc k * suc m + s
             sides m k s = omega arith
 
+-- each such partition is an entry
 pub each_within : (m n : ℕ) (parts : List ℕ) → Fits m n parts → Occurs parts (partitions_within m n)
 unfolding partitions_within
 each_within zero n [] h =
@@ -262,7 +215,7 @@ Ascending-map k p (x ∷ xs) (h, hs) =
     (all_map (IsEarlier (with_block k p x)) (with_block k p) xs later, Ascending-map k p xs hs)
   where
     later : AllByRecursion (λ y. IsEarlier (with_block k p x) (with_block k p y)) xs
-    later = all_mono (IsEarlier x) (λ y. IsEarlier (with_block k p x) (with_block k p y)) xs
+    later = all_weaken (IsEarlier x) (λ y. IsEarlier (with_block k p x) (with_block k p y)) xs
         (λ y e. same_block k p x y ∙ e) h
 
 -- the blocks with a, a + 1, .. a + n - 1 parts p, one after the other
@@ -276,7 +229,7 @@ Ascending-blocks p f up low a (suc n) =
     Ascending-append (map (with_block a p) (f a)) (blocks_from p f (a + 1) n)
     (Ascending-map a p (f a) (up a)) (Ascending-blocks p f up low (a + 1) n)
     (all_map (λ x. AllByRecursion (IsEarlier x) (blocks_from p f (a + 1) n)) (with_block a p) (f a)
-    (all_mono (λ x. slice_index x 0 < p)
+    (all_weaken (λ x. slice_index x 0 < p)
     (λ x. AllByRecursion (IsEarlier (with_block a p x)) (blocks_from p f (a + 1) n)) (f a) before_rest (low a)))
   where
     before_block : (x : List ℕ) → slice_index x 0 < p → (k : ℕ) → a < k →
@@ -291,56 +244,80 @@ Ascending-blocks p f up low a (suc n) =
         (range_all (λ k. AllByRecursion (IsEarlier (with_block a p x)) (map (with_block k p) (f k))) (a + 1) n
         (λ k lo hi. before_block x lt k (omega arith)))
 
+-- the entries ascend
 pub within_ascend : (m n : ℕ) → Ascending (partitions_within m n)
 unfolding partitions_within
 within_ascend zero n = elim (nat_eq n 0) as (λ b. Ascending (cond b ([] ∷ []) [])) [ true ↦ (tt, tt) | false ↦ tt ]
 within_ascend (suc m) n =
     Ascending-blocks (suc m) (λ k. partitions_within m (n - k * suc m)) (λ k. within_ascend m (n - k * suc m))
-    (λ k. all_mono (Fits m (n - k * suc m)) (λ x. slice_index x 0 < suc m) (partitions_within m (n - k * suc m))
+    (λ k. all_weaken (Fits m (n - k * suc m)) (λ x. slice_index x 0 < suc m) (partitions_within m (n - k * suc m))
     (λ x h. omega (arith, h.within)) (all_within m (n - k * suc m))) 0 (n / suc m + 1)
 
 -- ---- the partitions of n, and the e-regular ones
 
+-- each entry of the list of partitions of n is one
 pub all_partitions : (n : ℕ) → AllByRecursion (IsPartitionOf n) (partitions n)
 unfolding partitions
-all_partitions n = all_mono (Fits n n) (IsPartitionOf n) (partitions_within n n)
+all_partitions n = all_weaken (Fits n n) (IsPartitionOf n) (partitions_within n n)
     (λ x h. record { partition = h.partition; total = h.total }) (all_within n n)
 
 head_within : (parts : List ℕ) → slice_index parts 0 ≤ sum parts
 head_within [] = omega arith
 head_within (p ∷ parts) = omega (arith, sum_by-cons (λ x. x) p parts)
 
+-- each partition of n is an entry
 pub each_partition : (n : ℕ) (parts : List ℕ) → IsPartition parts → degree parts ≡ n → Occurs parts (partitions n)
 unfolding partitions
 each_partition n parts h e =
     each_within n n parts (record { partition = h; within = omega (arith, head_within parts, e); total = e })
 
+-- they ascend
 pub partitions_ascend : (n : ℕ) → Ascending (partitions n)
 unfolding partitions
 partitions_ascend n = within_ascend n n
 
+-- what passes a test ascends, as the list does
 pub Ascending-filter : (t : List ℕ → Bool) (xs : List (List ℕ)) → Ascending xs → Ascending (filter t xs)
 Ascending-filter t [] h = tt
 Ascending-filter t (x ∷ xs) (h, hs) = tested (t x) (Ascending-filter t xs hs)
   where
     later : AllByRecursion (IsEarlier x) (filter t xs)
-    later = all_filter (IsEarlier x) t xs (all_mono (IsEarlier x) (λ y. t y ≡ true → IsEarlier x y) xs (λ y e _. e) h)
+    later = all_filter (IsEarlier x) t xs (all_weaken (IsEarlier x) (λ y. t y ≡ true → IsEarlier x y) xs (λ y e _. e) h)
 
     tested : (b : Bool) → Ascending (filter t xs) → Ascending (cond b (x ∷ filter t xs) (filter t xs))
     tested true rest = (later, rest)
     tested false rest = rest
 
+-- each entry of the list of e-regular partitions of n is one
 pub all_regulars : (e n : ℕ) → AllByRecursion (IsRegularOf e n) (regulars e n)
 unfolding regulars
 all_regulars e n = all_filter (IsRegularOf e n) (is_regular e) (partitions n)
-    (all_mono (IsPartitionOf n) (λ x. is_regular e x ≡ true → IsRegularOf e n x) (partitions n)
+    (all_weaken (IsPartitionOf n) (λ x. is_regular e x ≡ true → IsRegularOf e n x) (partitions n)
     (λ x h r. record { partition = h.partition; total = h.total; regular = r }) (all_partitions n))
 
+-- each of them is an entry
 pub each_regular : (e n : ℕ) (parts : List ℕ) → IsRegularOf e n parts → Occurs parts (regulars e n)
 unfolding regulars
 each_regular e n parts h =
     occurs_filter (is_regular e) parts (partitions n) h.regular (each_partition n parts h.partition h.total)
 
+-- they ascend
 pub regulars_ascend : (e n : ℕ) → Ascending (regulars e n)
 unfolding regulars
 regulars_ascend e n = Ascending-filter (is_regular e) (partitions n) (partitions_ascend n)
+
+-- ---- the lists have what the words say, and nothing else
+
+-- a partition of n is in the list, and the list has no other
+pub partitions_contain : (n : ℕ) (parts : List ℕ) → Contains (partitions n) parts ↔ IsPartitionOf n parts
+partitions_contain n parts = (
+  λ c. at_occurs (IsPartitionOf n) parts (partitions n) (occurs parts (partitions n) c) (all_partitions n),
+  λ h. contains parts (partitions n) (each_partition n parts h.partition h.total),
+)
+
+-- so too an e-regular one
+pub regulars_contain : (e n : ℕ) (parts : List ℕ) → Contains (regulars e n) parts ↔ IsRegularOf e n parts
+regulars_contain e n parts = (
+  λ c. at_occurs (IsRegularOf e n) parts (regulars e n) (occurs parts (regulars e n) c) (all_regulars e n),
+  λ h. contains parts (regulars e n) (each_regular e n parts h),
+)

@@ -34,6 +34,7 @@ out_node parts r c hr hc h = tested (in_diagram parts (r, c)) refl
 abbrev HasResidue : ℕ → ℕ → Node → Type 0
 HasResidue e i x = nat_eq (residue e x) i ≡ true
 
+-- a move that passes the test has m nodes more of residue i
 pub move_facts : (e i m : ℕ) (before after : List ℕ) → is_move e i m before after ≡ true → Move e i m before after
 unfolding is_move
 move_facts e i m before after h =
@@ -72,6 +73,7 @@ move_facts e i m before after h =
         (slice_index before k) (omega arith) w last_in) in
         subst (λ n. slice_index before k ≤ slice_index after n) back v.within
 
+-- and what has them passes the test
 pub facts_move : (e i m : ℕ) (before after : List ℕ) → Move e i m before after → is_move e i m before after ≡ true
 unfolding is_move
 facts_move e i m before after h =

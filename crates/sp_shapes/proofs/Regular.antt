@@ -40,6 +40,7 @@ equal_run (x ∷ xs) p (suc i) (suc n) hp f =
 
 -- ---- places
 
+-- a part that is not 0 stands within the list
 pub index_short : (xs : List ℕ) (k : ℕ) → 0 < slice_index xs k → k < length xs
 index_short [] k h = absurd (omega arith)
 index_short (x ∷ xs) zero h = omega arith

@@ -20,6 +20,7 @@ shift_changes e x s lo hi same = compare_quotients (x / e) ((x + s) / e) (div-ad
 
 -- ---- neighbours
 
+-- the node to the right has another residue
 pub right_differs : (e r c : ℕ) → 2 ≤ e → residue e (r, c + 1) ≢ residue e (r, c)
 right_differs e r c h same = shift_changes e (c + e * r - r) 1 (omega arith) (omega arith)
     (ap (λ n. n % e) (moved e r c (mul-le-mul_left r h)) ∙ same)
@@ -27,6 +28,7 @@ right_differs e r c h same = shift_changes e (c + e * r - r) 1 (omega arith) (om
     moved : (e r c : ℕ) → r * 2 ≤ r * e → c + e * r - r + 1 ≡ c + 1 + e * r - r
     moved e r c h = omega arith
 
+-- the node below has another residue
 pub below_differs : (e r c : ℕ) → 2 ≤ e → residue e (r + 1, c) ≢ residue e (r, c)
 below_differs e r c h same = shift_changes e (c + e * r - r) (e - 1) (omega arith) (omega arith)
     (ap (λ n. n % e) (moved e r c h (mul-le-mul_left r h)) ∙ same)
@@ -36,6 +38,7 @@ below_differs e r c h same = shift_changes e (c + e * r - r) (e - 1) (omega arit
 
 -- ---- further down in the column, and in the column before
 
+-- less than e rows further down in the column the residue is another
 pub same_column : (e r c j : ℕ) → 2 ≤ e → 0 < j → j < e → residue e (r + j, c) ≢ residue e (r, c)
 same_column e r c j he lo hi same =
     shift_changes e (c + e * (r + j) - (r + j)) j lo hi
@@ -46,6 +49,7 @@ same_column e r c j he lo hi same =
     sides : (e r c j : ℕ) → r * 2 ≤ r * e → j * 2 ≤ j * e → c + e * (r + j) - (r + j) + j ≡ c + e * r - r + e * j
     sides e r c j h k = omega arith
 
+-- so too in the column before, up to the last of e - 1 rows
 pub column_before : (e r c j : ℕ) → 2 ≤ e → 1 ≤ c → j + 1 < e → residue e (r + j, c - 1) ≢ residue e (r, c)
 column_before e r c j he hc hi same =
     shift_changes e (c - 1 + e * (r + j) - (r + j)) (j + 1) (omega arith) hi
@@ -57,6 +61,7 @@ column_before e r c j he hc hi same =
         c - 1 + e * (r + j) - (r + j) + (j + 1) ≡ c + e * r - r + e * j
     sides e r c j hc h k = omega arith
 
+-- e - 1 rows further down, in the column before, the residue is back
 pub full_turn : (e r c : ℕ) → 2 ≤ e → 1 ≤ c → residue e (r + (e - 1), c - 1) ≡ residue e (r, c)
 full_turn e r c he hc =
     sym (add-mul-mod_self_left (c - 1 + e * (r + (e - 1)) - (r + (e - 1))) e 1)

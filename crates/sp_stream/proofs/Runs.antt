@@ -44,6 +44,11 @@ module _ {Sink : Type 0} (written : Sink → Option (List ℕ)) (steady : Sink �
       × ((before : List ℕ) → written start ≡ Some before →
       Answered rules first input taken before (written sink) status)
 
+  -- what a run shows that ended by this status
+  pub record Ends (sink : Sink) (now_left : Option (List ℕ)) (status : Status) : Type 0 where
+    pub told : IsTold sink now_left status
+    pub calm : IsCalm sink status
+
   pub nothing_taken : (now_left : Option (List ℕ)) → now_left ≡ Some input → HasTaken start first [] now_left 0
   nothing_taken now_left is = record {
     left = is;
@@ -185,3 +190,61 @@ module _ {Sink : Type 0} (written : Sink → Option (List ℕ)) (steady : Sink �
     record { left = left; few = omega (arith, whole); allowed = (whole, bound) },
     λ before is. puts.told before is,
   )
+
+  -- ---- how a run ends
+
+  -- a read of no bytes leaves what was left
+  nothing_more : (now_left : Option (List ℕ)) (into : List ℕ) (taken n : ℕ) → Hands (drop taken input) now_left into n →
+      n ≡ 0 → now_left ≡ Some (drop taken input)
+  nothing_more now_left into taken n hands zero = hands.left ∙ ap (λ k. Some (drop k (drop taken input))) zero
+
+  -- the end of the input was read, and all that answers it was written
+  pub ends_done : (sink new : Sink) (now_rules : Rules State) (state : State) (pending last into : List ℕ)
+      (mid_left now_left : Option (List ℕ)) (taken n : ℕ) → now_rules ≡ rules →
+      HasTaken sink state pending mid_left taken → Hands (drop taken input) now_left into n → n ≡ 0 →
+      taken ≤ INPUT_LIMIT → last ≡ pending → Puts written steady faults sink new (transcript now_rules state last) →
+      Ends new now_left Done
+  ends_done sink new now_rules state pending last into mid_left now_left taken n same has hands zero bound last_is
+      puts =
+      let all = all_taken sink state pending mid_left taken has (hands.ended.0 zero) in
+      let written_all = end_puts sink new now_rules state pending last same all.1 last_is puts in
+      record {
+        told = done_told new now_left taken written_all (nothing_more now_left into taken n hands zero) all.0 bound;
+        calm = puts_calm new Done (λ e. cc) written_all;
+      }
+
+  -- the end of the input was read, and the run stopped in what was left to be written
+  pub ends_stopped : (sink new : Sink) (now_rules : Rules State) (state : State) (pending last into : List ℕ)
+      (mid_left now_left : Option (List ℕ)) (taken n : ℕ) (stop : Stop) → now_rules ≡ rules →
+      HasTaken sink state pending mid_left taken → Hands (drop taken input) now_left into n → n ≡ 0 →
+      taken ≤ INPUT_LIMIT → last ≡ pending → Stops written steady faults sink new (texts_of now_rules state last) stop →
+      Ends new now_left (status_of stop)
+  ends_stopped sink new now_rules state pending last into mid_left now_left taken n stop same has hands zero bound
+      last_is stops =
+      let all = all_taken sink state pending mid_left taken has (hands.ended.0 zero) in
+      let stops_all = end_stops sink new now_rules state pending last stop same all.1 last_is stops in
+      record {
+        told = stops_told new now_left taken stop stops_all (nothing_more now_left into taken n hands zero) has.few
+            (omega arith);
+        calm = stops_calm new stop stops_all;
+      }
+
+  -- the run stopped in the lines that were read last
+  pub ends_within : (new : Sink) (into : List ℕ) (now_left : Option (List ℕ)) (taken n : ℕ) (stop : Stop) →
+      taken ≤ length input → Hands (drop taken input) now_left into n → taken + n ≤ INPUT_LIMIT + 1 →
+      Stops written steady faults start new (texts_of rules first input) stop → Ends new now_left (status_of stop)
+  ends_within new into now_left taken n stop few hands bound stops = record {
+    told = stops_told new now_left (taken + n) stop stops
+        (hands.left ∙ ap (λ t. Some t) (drop-drop n taken input))
+        (omega (arith, few, hands.few, length-drop taken input)) bound;
+    calm = stops_calm new stop stops;
+  }
+
+  -- one byte past the limit was read
+  pub ends_too_long : (sink : Sink) (state : State) (pending into : List ℕ) (mid_left now_left : Option (List ℕ))
+      (taken n : ℕ) → HasTaken sink state pending mid_left taken → Hands (drop taken input) now_left into n →
+      taken ≡ INPUT_LIMIT → n ≡ 1 → Ends sink now_left InputTooLong
+  ends_too_long sink state pending into mid_left now_left taken n has hands limit one = record {
+    told = too_long_told sink state pending into mid_left now_left taken n has hands limit one;
+    calm = feeds_calm sink state pending mid_left taken InputTooLong (λ e. cc) has;
+  }

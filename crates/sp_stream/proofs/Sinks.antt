@@ -1,5 +1,5 @@
 -- Texts that are written one after the other, and where that stops.
-use Rattle.std.proofs.Common.{◌≡◌, ◌≤◌, ◌<◌, ◌+◌, ◌-◌, ◌++◌, [], List, ℕ, Option, Some, length, take, length-append}
+use Rattle.std.proofs.Common.{◌≡◌, ◌≢◌, ◌≤◌, ◌<◌, ◌+◌, ◌-◌, ◌++◌, [], List, ℕ, Option, Some, length, take, length-append}
 use Rattle.std.proofs.Common.{append_assoc, append-nil, arith, ap, sym, ◌∙◌, refl, subst}
 use Rattle.std.specs.List.{concat}
 use Rattle.std.proofs.lemmas.Grind.{common_steps}
@@ -7,7 +7,9 @@ use Rattle.std.proofs.lemmas.List.Folds.{concat-append}
 use Rattle.sp_base.specs.Causes.{Rose}
 use Rattle.sp_stream.specs.declared.lines.Stop.{Stop}
 use Rattle.sp_stream.specs.declared.lines.Stop.TheVariants.{Write, Memory}
+use Rattle.sp_stream.specs.declared.status.Status.{Status}
 use Rattle.sp_stream.specs.declared.status.Status.TheVariants.{WriteFault}
+use Rattle.sp_stream.specs.Faults.{FaultsHaveCause}
 use Rattle.sp_stream.specs.Served.{status_of}
 use Rattle.sp_stream.specs.Writing.{Puts, Breaks, RunsOut, Stops}
 
@@ -171,3 +173,29 @@ module _ {Sink : Type 0} (written : Sink → Option (List ℕ)) (steady : Sink �
       Stops written steady faults old new texts stop → status_of stop ≡ WriteFault → Rose (faults old) (faults new)
   stops_rose old new texts Write stops is = stops.rose
   stops_rose old new texts Memory stops is = cc
+
+  -- the faults of a sink that was written to, after a run that none of its writes ended
+  pub puts_faults : (start sink new : Sink) (text : List ℕ) (status : Status) (IsSteady : Type 0) →
+      status ≢ WriteFault → faults start ≤ faults sink → Puts written steady faults sink new text →
+      (IsSteady → (status ≢ WriteFault) × (faults new ≡ faults start)) →
+      FaultsHaveCause WriteFault status (faults start) (faults new) IsSteady
+  puts_faults start sink new text status IsSteady other before puts calm = record {
+    later = omega (arith, before, puts.later);
+    cause = λ is. absurd (other is);
+    calm = calm;
+  }
+
+  -- the faults of a sink, after a run that stopped in mid-stream
+  pub stops_cause : (start sink new : Sink) (texts : List (List ℕ)) (stop : Stop) (IsSteady : Type 0) →
+      faults start ≤ faults sink → Stops written steady faults sink new texts stop →
+      (IsSteady → (status_of stop ≢ WriteFault) × (faults new ≡ faults start)) →
+      FaultsHaveCause WriteFault (status_of stop) (faults start) (faults new) IsSteady
+  stops_cause start sink new texts stop IsSteady before stops calm =
+      let later : faults sink ≤ faults new = stops_faults sink new texts stop stops in
+      record {
+        later = omega arith;
+        cause = λ is.
+            let rose : Rose (faults sink) (faults new) = stops_rose sink new texts stop stops is in
+            omega arith;
+        calm = calm;
+      }

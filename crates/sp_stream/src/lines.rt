@@ -14,6 +14,11 @@ use std::alloc::AllocError;
 /// The byte that ends a line.
 pub const NEWLINE: u8 = b'\n';
 
+/// The byte that ends a line has the code 10.
+pub fn newline_law()
+    ensures { NEWLINE ≡ 10 }
+{}
+
 /// Why a run stops in mid-stream.
 #[derive(Clone, Copy, Debug, PartialEq, Eq)]
 pub enum Stop {
@@ -137,19 +142,15 @@ fn answer_last<K: Sink, A: Answers>(
 }
 
 /// Writes the text at the end.
-fn close<K: Sink, A: Answers>(
-    sink: &mut K,
-    answers: &mut A,
-    reply: &mut Vec<u8>,
-) -> Result<(), Stop>
+fn close<K: Sink, A: Answers>(sink: &mut K, answers: &mut A, text: &mut Vec<u8>) -> Result<(), Stop>
     ensures puts { OnOk result (Puts K.written K.steady K.faults sink.old sink.new
         ((A.rules answers.old).closing (A.state answers.old))) }
     ensures stops { IfErr result (Stops K.written K.steady K.faults sink.old sink.new
         ((A.rules answers.old).closing (A.state answers.old) ∷ [])) }
 {
-    reply.clear();
-    answers.close(reply)?;
-    deliver(sink, reply)?;
+    text.clear();
+    answers.close(text)?;
+    deliver(sink, text)?;
     Ok(())
 }
 

@@ -33,6 +33,46 @@ impl Answers for Echo {
     }
 }
 
+/// Answers nothing, and says good-bye at the end.
+#[derive(Drop)]
+struct Silent;
+
+impl Answers for Silent {
+    ghost State = { Unit {0} };
+
+    ghost state = { λ _. tt };
+
+    ghost rules = { λ _. record {
+      reply = λ _ _. [];
+      next = λ state _. state;
+      closing = λ _. codes "bye";
+    } };
+
+    fn answer(&mut self, _line: &[u8], _out: &mut Vec<u8>) -> Result<(), AllocError> {
+        Ok(())
+    }
+
+    fn close(&mut self, out: &mut Vec<u8>) -> Result<(), AllocError> {
+        out.extend_from_slice(b"bye")
+    }
+}
+
+/// Whether a run over so many bytes ends so.
+fn ends_at(alloc: Global, size: usize, status: Status, output: &str) -> Result<bool, AllocError> {
+    let mut source = MemSource::new(vec![in alloc; b'a'; size]?, 65_536, Vec::new(alloc));
+    let mut sink = MemSink::new(alloc, 8, 8, Vec::new(alloc))?;
+    let ended = serve(alloc, &mut source, &mut sink, &mut Silent);
+    Ok(ended == status && sink.bytes() == output.as_bytes())
+}
+
+#[test]
+fn an_input_at_the_limit_is_answered_and_one_byte_more_is_not(rt: HostRuntime) -> Result<(), Fail> {
+    let alloc = rt.alloc();
+    assert!(rt; ends_at(alloc, 16_777_216, Status::Done, "bye")?);
+    assert!(rt; ends_at(alloc, 16_777_217, Status::InputTooLong, "")?);
+    Ok(())
+}
+
 /// Whether a run over this input ends so. Reads take 4 bytes at most, and writes 3.
 fn ends(
     alloc: Global,

@@ -11,16 +11,19 @@ use Rattle.sp_defs.specs.Power.{Vector}
 use Rattle.sp_defs.specs.Row.{Factors, combination, before, factors, factor_of, shares_over}
 use Rattle.sp_algebra.proofs.Laws.{coefficient-plus, IsLaurent-plus, IsLaurent-times, plus_nought, nought_plus}
 use Rattle.sp_algebra.proofs.Laws.{plus_negate, times_assoc, times_plus, plus_times, one_times, nought_times}
-use Rattle.sp_algebra.proofs.Laws.{bar_invariant-times, bar_invariant-plus, bar_invariant-negate, bar_invariant-nought}
+use Rattle.sp_algebra.proofs.Laws.{bar_invariant-times, bar_invariant-plus, bar_invariant-negate}
+use Rattle.sp_algebra.proofs.Laws.{bar_invariant-nought}
 use Rattle.sp_algebra.proofs.Laws.{bar_invariant-lift}
 use Rattle.sp_algebra.proofs.Coefficients.{same_laurent}
-use Rattle.sp_shapes.proofs.Order.{all_mono, less_trans}
+use Rattle.sp_shapes.proofs.Order.{less_trans}
 use Rattle.sp_shapes.proofs.Before.{before_keep, before_self, all_before, all_kept}
 use Rattle.sp_triangle.proofs.Triangle.{combination-cons, IsLaurent-combination, Triangle, row_later, row_at_mu}
 use Rattle.sp_triangle.proofs.Triangle.{same_factors}
+use Rattle.sp_lists.proofs.Places.{all_weaken}
 
 -- ---- the keys of the shares, and that they are bar-invariant
 
+-- The partitions of the shares are those of the segment.
 pub keys-shares : (A : List ℕ → Vector) (mu : List ℕ) (seg : List (List ℕ)) →
     map (λ f. f.0) (shares_over A mu seg) ≡ seg
 unfolding shares_over
@@ -33,6 +36,7 @@ pub from_keys : (P : List ℕ → Type 0) (fs : Factors) → AllByRecursion P (m
 from_keys P [] h = tt
 from_keys P (f ∷ fs) (h, hs) = (h, from_keys P fs hs)
 
+-- A factor equals its bar.
 pub invariant-factor_of : (A : List ℕ → Vector) (nu kappa : List ℕ) (between : List (List ℕ)) →
     IsBarInvariant (factor_of A nu kappa between)
 invariant-factor_of A nu kappa between =
@@ -46,6 +50,7 @@ invariant-sum [] g hg h = bar_invariant-nought
 invariant-sum (f ∷ fs) g hg (h, hs) = bar_invariant-plus (times f.1 (g f.0)) (sum_over fs (λ a. times a.1 (g a.0)))
     (bar_invariant-times f.1 (g f.0) h (hg f.0)) (invariant-sum fs g hg hs)
 
+-- Each share equals its bar.
 pub invariant-shares : (A : List ℕ → Vector) (mu : List ℕ) (seg : List (List ℕ)) →
     AllByRecursion (λ f. IsBarInvariant f.1) (shares_over A mu seg)
 unfolding shares_over
@@ -229,7 +234,7 @@ module _ (Good : List ℕ → Type 0) (A : List ℕ → Vector) (tri : Triangle 
   rows_triangle seg good = record {
     diagonal = λ nu gn. row_at_mu Good A tri nu (before nu seg) gn (all_kept Good nu seg good) (all_before nu seg);
     later = λ nu lambda gn gl h. row_later Good A tri nu (before nu seg) lambda gn (all_kept Good nu seg good) gl h
-        (all_mono (λ kappa. compare kappa nu ≡ Less) (λ kappa. compare kappa lambda ≡ Less) (before nu seg)
+        (all_weaken (λ kappa. compare kappa nu ≡ Less) (λ kappa. compare kappa lambda ≡ Less) (before nu seg)
         (λ kappa k. less_trans kappa nu lambda k h) (all_before nu seg));
   }
 
@@ -243,7 +248,7 @@ module _ (Good : List ℕ → Type 0) (A : List ℕ → Vector) (tri : Triangle 
   only_shares l mu seg good up gs kg bg e =
       same_factors Good (rows A seg) (rows_triangle seg good) seg gs (shares_over A mu seg) good up kg
       (keys-shares A mu seg) bg (invariant-shares A mu seg)
-      (all_mono Good
+      (all_weaken Good
       (λ nu. (j : ℤ) → j ≤ℤ pos 0 →
       coefficient (combination (rows A seg) gs nu) j
       ≡ coefficient (combination (rows A seg) (shares_over A mu seg) nu) j) seg

@@ -16,15 +16,18 @@ use Rattle.sp_algebra.proofs.Laws.{bar_invariant-one, bar_invariant-lift, lift_r
 
 -- ---- combinations, by their terms
 
+-- A combination with one factor more.
 pub combination-cons : (A : List ℕ → Vector) (nu : List ℕ) (b : Laurent) (fs : Factors) (lambda : List ℕ) →
     combination A ((nu, b) ∷ fs) lambda ≡ plus (times b (A nu lambda)) (combination A fs lambda)
 unfolding combination sum_over
 combination-cons A nu b fs lambda = refl
 
+-- A combination's value is a Laurent polynomial.
 pub IsLaurent-combination : (A : List ℕ → Vector) (fs : Factors) (lambda : List ℕ) → IsLaurent (combination A fs lambda)
 unfolding combination
 IsLaurent-combination A fs lambda = IsLaurent-sum_over fs (λ f. times f.1 (A f.0 lambda))
 
+-- A combination of two lists of factors.
 pub combination-append : (A : List ℕ → Vector) (fs gs : Factors) (lambda : List ℕ) →
     combination A (fs ++ gs) lambda ≡ plus (combination A fs lambda) (combination A gs lambda)
 unfolding combination
@@ -56,12 +59,14 @@ diagonal_term A nu b fs l d =
 
 -- ---- the factors, by their keys, and that they are bar-invariant
 
+-- The partitions of the factors are those of the segment, and mu.
 pub keys-factors : (A : List ℕ → Vector) (mu : List ℕ) (seg : List (List ℕ)) →
     map (λ f. f.0) (factors A mu seg) ≡ seg ++ (mu ∷ [])
 unfolding factors
 keys-factors A mu [] = refl
 keys-factors A mu (nu ∷ seg) = ap (λ r. nu ∷ r) (keys-factors A mu seg)
 
+-- Each factor equals its bar.
 pub invariant-factors : (A : List ℕ → Vector) (mu : List ℕ) (seg : List (List ℕ)) →
     AllByRecursion (λ f. IsBarInvariant f.1) (factors A mu seg)
 unfolding factors
@@ -133,6 +138,7 @@ module _ (Good : List ℕ → Type 0) (A : List ℕ → Vector) (tri : Triangle 
 
   -- ---- only one list of bar-invariant factors gives what is given at the powers up to 0
 
+  -- The coefficients up to the power 0 are the same.
   abbrev pub Agree : Laurent → Laurent → Type 0
   Agree p q = (j : ℤ) → j ≤ℤ pos 0 → coefficient p j ≡ coefficient q j
 

@@ -6,57 +6,26 @@ use Rattle.sp_abacus_law.specs.Beads.{numbers, Falls}
 use Rattle.sp_abacus_law.specs.Combined.{combined_beads}
 use Rattle.sp_abacus_law.proofs.Weight.{runner-short}
 use native.Mathlib.Nat.{mod-lt}
-use Rattle.sp_abacus.proofs.Taking.{Fit, count_few, set_few, combined_small, taken_below, taken_all, taken_yes}
+use Rattle.sp_abacus.proofs.Taking.{counted_few, set_few, combined_small, taken_below, taken_all, taken_yes}
 use Rattle.sp_abacus.proofs.Taking.{taken_no, taken_room, taken_done, set_falling}
 use Rattle.sp_abacus.proofs.combining.placed.Goals as goal
 
 pub overflow_cast-count-3 : goal.overflow_cast-count-3
 overflow_cast-count-3 c =
-    let fit : Fit c.args.e c.args.kappa.now c.args.quotient.now =
-    record {
-      e_least = c.requires.e_least;
-      e_most = c.requires.e_most;
-      kappa_held = c.bead_count.ensures.held;
-      count = c.requires.count;
-      own = c.requires.own;
-      held = c.requires.held;
-      small = c.requires.small;
-    } in
-    let count = ap₂ (λ m n. m + n * c.args.e) c.bead_count.ensures.value c.total_rows.ensures.sum in
-    let few = count_few c.args.e c.args.kappa.now c.args.quotient.now fit in
-    let small : c.bead_count.result + c.total_rows.result * c.args.e ≤ 64 = subst (λ n. n ≤ 64) (sym count) few in
+    let few = counted_few c.args.e c.args.kappa.now c.args.quotient.now c.bead_count.result c.total_rows.result
+    c.requires c.bead_count.ensures.value c.total_rows.ensures.sum in
     omega arith
 
 pub numbers-requires : goal.numbers-requires
 numbers-requires c =
-    let fit : Fit c.args.e c.args.kappa.now c.args.quotient.now =
-    record {
-      e_least = c.requires.e_least;
-      e_most = c.requires.e_most;
-      kappa_held = c.bead_count.ensures.held;
-      count = c.requires.count;
-      own = c.requires.own;
-      held = c.requires.held;
-      small = c.requires.small;
-    } in
-    let count = ap₂ (λ m n. m + n * c.args.e) c.bead_count.ensures.value c.total_rows.ensures.sum in
-    subst (λ n. n ≤ 64) (sym count) (count_few c.args.e c.args.kappa.now c.args.quotient.now fit)
+    counted_few c.args.e c.args.kappa.now c.args.quotient.now c.bead_count.result c.total_rows.result c.requires
+    c.bead_count.ensures.value c.total_rows.ensures.sum
 
 pub loop-number-init : goal.loop-number-init
 loop-number-init c =
-    let fit : Fit c.args.e c.args.kappa.now c.args.quotient.now =
-    record {
-      e_least = c.requires.e_least;
-      e_most = c.requires.e_most;
-      kappa_held = c.bead_count.ensures.held;
-      count = c.requires.count;
-      own = c.requires.own;
-      held = c.requires.held;
-      small = c.requires.small;
-    } in
     let count = ap₂ (λ m n. m + n * c.args.e) c.bead_count.ensures.value c.total_rows.ensures.sum in
     ap (λ xs. xs ++ taken_below c.args.e c.heights-heights.result c.args.quotient.now 96) c.new-found.ensures
-    ∙ taken_all c.args.e c.args.kappa.now c.heights-heights.result c.as_slice.result.now c.args.quotient.now fit
+    ∙ taken_all c.args.e c.args.kappa.now c.heights-heights.result c.as_slice.result.now c.args.quotient.now c.requires
     (c.as_slice.ensures.value ∙ c.numbers.ensures ∙ ap (numbers c.args.kappa.now) count) c.heights-heights.ensures
 
 pub is_taken-requires-clause-low : goal.is_taken-requires-clause-low
@@ -69,20 +38,10 @@ is_taken-requires-clause-low c =
 
 pub push-requires : goal.push-requires
 push-requires c =
-    let fit : Fit c.args.e c.args.kappa.now c.args.quotient.now =
-    record {
-      e_least = c.requires.e_least;
-      e_most = c.requires.e_most;
-      kappa_held = c.bead_count.ensures.held;
-      count = c.requires.count;
-      own = c.requires.own;
-      held = c.requires.held;
-      small = c.requires.small;
-    } in
     let room = taken_room c.args.e c.loop-number.number c.heights-heights.result c.loop-number.found.items
     (combined_beads c.args.e c.args.kappa.now c.args.quotient.now) c.args.quotient.now (omega arith)
     (sym c.is_taken.ensures ∙ c.if-is_taken.true)
-    (set_few c.args.e c.args.kappa.now c.args.quotient.now fit) c.loop-number.invariant in
+    (set_few c.args.e c.args.kappa.now c.args.quotient.now c.requires) c.loop-number.invariant in
     (omega arith, room)
 
 pub loop-number-preserved-then-is_taken : goal.loop-number-preserved-then-is_taken
@@ -101,34 +60,15 @@ loop-number-preserved c =
 
 pub returns-clause-falls : goal.returns-clause-falls
 returns-clause-falls c =
-    let fit : Fit c.args.e c.args.kappa.now c.args.quotient.now =
-    record {
-      e_least = c.requires.e_least;
-      e_most = c.requires.e_most;
-      kappa_held = c.bead_count.ensures.held;
-      count = c.requires.count;
-      own = c.requires.own;
-      held = c.requires.held;
-      small = c.requires.small;
-    } in
     let done = taken_done c.args.e c.loop-number.number c.heights-heights.result c.loop-number.found.items
     (combined_beads c.args.e c.args.kappa.now c.args.quotient.now) c.args.quotient.now (omega arith)
     c.loop-number.invariant in
-    subst Falls (sym done) (set_falling c.args.e c.args.kappa.now c.args.quotient.now fit)
+    subst Falls (sym done) (set_falling c.args.e c.args.kappa.now c.args.quotient.now c.requires)
 
 pub returns-clause-small : goal.returns-clause-small
 returns-clause-small c =
-    let fit : Fit c.args.e c.args.kappa.now c.args.quotient.now =
-    record {
-      e_least = c.requires.e_least;
-      e_most = c.requires.e_most;
-      kappa_held = c.bead_count.ensures.held;
-      count = c.requires.count;
-      own = c.requires.own;
-      held = c.requires.held;
-      small = c.requires.small;
-    } in
     let done = taken_done c.args.e c.loop-number.number c.heights-heights.result c.loop-number.found.items
     (combined_beads c.args.e c.args.kappa.now c.args.quotient.now) c.args.quotient.now (omega arith)
     c.loop-number.invariant in
-    subst (λ bs. degree (shown bs) ≤ 32) (sym done) (combined_small c.args.e c.args.kappa.now c.args.quotient.now fit)
+    subst (λ bs. degree (shown bs) ≤ 32) (sym done)
+    (combined_small c.args.e c.args.kappa.now c.args.quotient.now c.requires)

@@ -1,6 +1,7 @@
 use Rattle.std.proofs.Common.{◌≡◌, refl, subst, sym}
 use Rattle.sp_good.specs.Climb.{negated_path}
-use Rattle.sp_good.proofs.Descending.{some_value, some_fact}
+use Rattle.sp_partition.proofs.Listings.{unwrapped}
+use Rattle.sp_good.proofs.Descending.{some_fact}
 use Rattle.sp_good.proofs.Climbing.{Climbed, climbed_start, climbed_more, climbed_stops, climbed_all}
 use Rattle.sp_good.proofs.Climbing.{stopped_image, stopped_stop, ended_image, ended_stop}
 use Rattle.sp_good.proofs.images.mullineux.Goals as goal
@@ -20,7 +21,7 @@ pub loop-residue-preserved : goal.loop-residue-preserved
 loop-residue-preserved c =
     climbed_more c.args.e _ _ _ _ _ c.in-Some.residue.now c.loop-residue.invariant c.in-Some.ensures.steps
     c.unwrap-at.result c.in-Some-cogood.node.row c.in-Some-cogood.node.column (sym c.in-Some-cogood.ensures.node)
-    c.in-Some-cogood.ensures.addable (some_value _ _ _ _ c.add_node.ensures.node c.unwrap-at.ensures)
+    c.in-Some-cogood.ensures.addable (unwrapped _ _ _ _ c.add_node.ensures.node c.unwrap-at.ensures)
     (some_fact _ _ _ c.add_node.ensures.held c.unwrap-at.ensures)
 
 pub returns-in-None-cogood-clause-image : goal.returns-in-None-cogood-clause-image

@@ -1,13 +1,14 @@
 use Rattle.std.proofs.Common.{◌≡◌, subst, sym, ap, arith, ◌-◌}
 use Rattle.sp_defs.specs.Partition.{degree}
 use Rattle.sp_defs.specs.Signature.{shrink}
-use Rattle.sp_good.proofs.Descending.{Descended, some_value, some_fact, descended_start, one_less}
+use Rattle.sp_partition.proofs.Listings.{unwrapped}
+use Rattle.sp_good.proofs.Descending.{Descended, some_fact, descended_start, one_less}
 use Rattle.sp_good.proofs.Descending.{descended_more, descended_all, descended_whole}
 use Rattle.sp_good.proofs.paths.path.Goals as goal
 use Rattle.sp_good.proofs.paths.path.Goals.{After-unwrap-at}
 
 shrunk : (c : After-unwrap-at) → c.unwrap-at.result ≡ shrink (c.in-Some.step.node.row - 1) c.loop-step.at
-shrunk c = some_value _ _ _ _ c.remove_node.ensures.node c.unwrap-at.ensures
+shrunk c = unwrapped _ _ _ _ c.remove_node.ensures.node c.unwrap-at.ensures
 
 pub loop-step-init : goal.loop-step-init
 loop-step-init c =

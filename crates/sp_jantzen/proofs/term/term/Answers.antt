@@ -44,8 +44,10 @@ shown-partition-requires c =
     let sorted : c.as_slice-3.result.now ≡ descending (moved xs c.args.to c.args.from c.args.steps) =
     c.as_slice-3.ensures.value ∙ c.descending.ensures
     ∙ ap descending (c.as_slice-2.ensures.value ∙ c.moved-after.ensures) in
+    let beads : AreBeads c.as_slice-3.result.now =
     subst AreBeads (sym sorted)
-    (sorted_beads xs c.args.to c.args.from c.args.steps c.requires.beads c.requires.step distinct)
+    (sorted_beads xs c.args.to c.args.from c.args.steps c.requires.beads c.requires.step distinct) in
+    record { falls = beads.falls; few = beads.few; small = beads.small }
 
 pub returns : goal.returns
 returns c =

@@ -1,6 +1,7 @@
-use Rattle.std.proofs.Common.{◌+◌, ◌*◌, ◌<◌, ◌^◌, refl, sym, ◌∙◌, ap₂, subst, arith, inl, inr}
-use Rattle.sp_defs.specs.Laurent.{plus, times, size}
+use Rattle.std.proofs.Common.{◌+◌, ◌*◌, ◌<◌, ◌^◌, refl, sym, ◌∙◌, ap, ap₂, subst, arith, inl, inr}
+use Rattle.sp_defs.specs.Laurent.{coefficient, plus, times, size}
 use Rattle.sp_defs.specs.Within.{PowersWithin}
+use Rattle.sp_algebra.proofs.Laws.{coefficient-plus_times}
 use Rattle.sp_algebra.proofs.Sizes.{within_plus, within_times}
 use Rattle.sp_laurent.specs.Held.{IsHeld}
 use Rattle.sp_laurent.proofs.Held.{held_sum, add_none}
@@ -18,7 +19,7 @@ returns-then-is_zero-clause-ok c =
 
 pub invariant_of-self : goal.invariant_of-self
 invariant_of-self c =
-    let sum = c.in_ok-self-inside.ensures ∙ ap₂ plus (c.deref.ensures.value ∙ c.self.view_is)
+    let sum = c.in_ok-add_product.ensures ∙ ap₂ plus (c.in_ok-sum.ensures.items ∙ c.deref.ensures.value ∙ c.self.view_is)
     (ap₂ times (c.deref-2.ensures.value ∙ c.a.view_is) (c.deref-3.ensures.value ∙ c.b.view_is)) in
     let fits : size c.args.self.now + size c.args.a.now * size c.args.b.now < 2 ^ 127 =
     omega (
@@ -32,7 +33,7 @@ invariant_of-self c =
 
 pub returns-clause-powers : goal.returns-clause-powers
 returns-clause-powers c d old product =
-    let sum = c.in_ok-self-inside.ensures ∙ ap₂ plus (c.deref.ensures.value ∙ c.self.view_is)
+    let sum = c.in_ok-add_product.ensures ∙ ap₂ plus (c.in_ok-sum.ensures.items ∙ c.deref.ensures.value ∙ c.self.view_is)
     (ap₂ times (c.deref-2.ensures.value ∙ c.a.view_is) (c.deref-3.ensures.value ∙ c.b.view_is)) in
     subst (PowersWithin d) (sym sum)
     (within_plus d c.args.self.now (times c.args.a.now c.args.b.now) old
@@ -40,3 +41,15 @@ returns-clause-powers c d old product =
 
 pub returns-clause-held : goal.returns-clause-held
 returns-clause-held c = invariant_of-self c
+
+pub returns-clause-coefficients : goal.returns-clause-coefficients
+returns-clause-coefficients c j =
+    let sum = c.in_ok-add_product.ensures ∙ ap₂ plus
+    (c.in_ok-sum.ensures.items ∙ c.deref.ensures.value ∙ c.self.view_is)
+    (ap₂ times (c.deref-2.ensures.value ∙ c.a.view_is) (c.deref-3.ensures.value ∙ c.b.view_is)) in
+    ap (λ q. coefficient q j) sum ∙ coefficient-plus_times c.args.self.now c.args.a.now c.args.b.now j
+
+pub returns-then-is_zero-clause-coefficients : goal.returns-then-is_zero-clause-coefficients
+returns-then-is_zero-clause-coefficients c j =
+    ap (λ q. coefficient q j) (returns-then-is_zero-clause-ok c)
+    ∙ coefficient-plus_times c.args.self.now c.args.a.now c.args.b.now j

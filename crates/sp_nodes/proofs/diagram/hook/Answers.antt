@@ -18,5 +18,5 @@ returns c =
     let row = c.args.node.row in
     let node = node_in c.args.p.now row c.args.node.column c.requires in
     ap₂ (λ right below. (right - c.args.node.column) + (below - row) + 1)
-    c.row_length.ensures.value c.column_length.ensures.value
+    c.part.ensures.value c.column_length.ensures.value
     ∙ sym (hook-column c.args.p.now row c.args.node.column c.column_length.ensures.partition node)

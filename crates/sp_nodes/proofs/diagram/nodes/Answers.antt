@@ -8,13 +8,13 @@ push_row-requires-clause-room c =
       arith,
       listed_room c.args.p.now c.loop-row.found.items c.loop-row.row c.row_count-row-end.ensures.held
           (omega arith) (omega arith) c.loop-row.invariant,
-      c.row_length.ensures.value,
+      c.part.ensures.value,
     )
 
 pub loop-row-preserved : goal.loop-row-preserved
 loop-row-preserved c =
-    listed_row c.args.p.now c.loop-row.found.items c.push_row.new.found.items c.loop-row.row c.row_length.result
-    (omega arith) (omega arith) c.row_length.ensures.value c.push_row.ensures.nodes c.push_row.ensures.len
+    listed_row c.args.p.now c.loop-row.found.items c.push_row.new.found.items c.loop-row.row c.part.result
+    (omega arith) (omega arith) c.part.ensures.value c.push_row.ensures.nodes c.push_row.ensures.len
     c.push_row.ensures.places c.loop-row.invariant
 
 pub returns-clause-nodes : goal.returns-clause-nodes

@@ -1,5 +1,5 @@
 use Rattle.std.proofs.Common.{rules, arith}
-use Rattle.sp_partition.proofs.Conjugates.{columns_next}
+use Rattle.sp_partition.proofs.ColumnLengths.{columns_next}
 use Rattle.sp_partition.proofs.conjugate.column_lengths.Goals as goal
 
 pub loop-column-preserved : goal.loop-column-preserved

@@ -1,5 +1,7 @@
-use Rattle.std.proofs.Common.{sym}
+use Rattle.std.proofs.Common.{rules, sym, subst}
+use Rattle.sp_defs.specs.Partition.{IsPartition}
 use Rattle.sp_partition.proofs.Growing.{Grows, grows}
+use Rattle.sp_partition.proofs.WithNode.{more_with, addable_with}
 use Rattle.sp_partition.proofs.partition.Partition.add_node.Goals as goal
 
 pub bounds-grown-inside-row : goal.bounds-grown-inside-row
@@ -22,3 +24,23 @@ returns-clause-node c = ((sym c.if-not-can_grow.ensures, (grown c).small), rw c.
 
 pub returns-clause-held : goal.returns-clause-held
 returns-clause-held c = rw (c.max.ensures, (grown c).shows) (grown c).held
+
+pub returns-then-self-eq-CAPACITY-clause-more : goal.returns-then-self-eq-CAPACITY-clause-more
+returns-then-self-eq-CAPACITY-clause-more c =
+    more_with c.args.self.now c.args.row _ (subst IsPartition c.self.view_is c.self.invariant.held.partition)
+    (search rules)
+
+pub returns-then-self-eq-CAPACITY-clause-addable : goal.returns-then-self-eq-CAPACITY-clause-addable
+returns-then-self-eq-CAPACITY-clause-addable c = λ column.
+    addable_with c.args.self.now c.args.row column
+    (subst IsPartition c.self.view_is c.self.invariant.held.partition)
+
+pub returns-clause-more : goal.returns-clause-more
+returns-clause-more c =
+    more_with c.args.self.now c.args.row _ (subst IsPartition c.self.view_is c.self.invariant.held.partition)
+    ((sym c.if-not-can_grow.ensures, (grown c).small), rw c.max.ensures (grown c).shows)
+
+pub returns-clause-addable : goal.returns-clause-addable
+returns-clause-addable c = λ column.
+    addable_with c.args.self.now c.args.row column
+    (subst IsPartition c.self.view_is c.self.invariant.held.partition)

@@ -3,8 +3,8 @@ use Rattle.std.specs.List.{slice_get}
 use Rattle.std.specs.Option.{unwrap_or}
 use Rattle.sp_defs.specs.Partition.{part}
 use Rattle.sp_partition.proofs.Holding.{few_parts}
-use Rattle.sp_partition.proofs.Conjugates.{columns_held, width_is}
-use Rattle.sp_partition.proofs.Involution.{conjugate_twice}
+use Rattle.sp_partition.proofs.ColumnLengths.{columns_held, width_is}
+use Rattle.sp_shapes.proofs.Involution.{conjugate_twice}
 use Rattle.sp_partition.proofs.partition.Partition.conjugate.Goals as goal
 
 pub column_lengths-columns-requires-clause-few : goal.column_lengths-columns-requires-clause-few

@@ -1,6 +1,8 @@
-use Rattle.std.proofs.Common.{◌≡◌, ℕ, ◌-◌, slice_index, sym, ◌∙◌}
+use Rattle.std.proofs.Common.{◌≡◌, ℕ, ◌-◌, slice_index, sym, ◌∙◌, subst}
 use Rattle.sp_partition.specs.Held.{IsHeld}
 use Rattle.sp_defs.specs.Signature.{shrink}
+use Rattle.sp_defs.specs.Partition.{IsPartition}
+use Rattle.sp_partition.proofs.WithNode.{less_with, removable_with}
 use Rattle.sp_partition.proofs.Shrinking.{Shrinks, shrinks, parts_left, less_at, one_less, as_many}
 use Rattle.sp_partition.proofs.partition.Partition.remove_node.Goals as goal
 use Rattle.sp_partition.proofs.partition.Partition.remove_node.Goals.{then-shrunk-place-eq0, else-shrunk-place-eq0}
@@ -42,3 +44,13 @@ returns-clause-node c = (sym c.if-not-can_shrink.ensures, (after c).0)
 
 pub returns-clause-held : goal.returns-clause-held
 returns-clause-held c = rw (after c).0 (after c).1
+
+pub returns-clause-less : goal.returns-clause-less
+returns-clause-less c =
+    less_with c.args.self.now c.args.row _ (subst IsPartition c.shrunk.view_is c.shrunk.invariant.held.partition)
+    (sym c.if-not-can_shrink.ensures, (after c).0)
+
+pub returns-clause-removable : goal.returns-clause-removable
+returns-clause-removable c = λ column.
+    removable_with c.args.self.now c.args.row column
+    (subst IsPartition c.shrunk.view_is c.shrunk.invariant.held.partition)

@@ -1,0 +1,82 @@
+-- Rows of a grid: how the list of their cells is made, and how it is walked.
+use Rattle.std.proofs.Common.{◌≡◌, ◌≢◌, ℕ, suc, ◌+◌, ◌-◌, ◌<◌, List, [], ◌∷◌, ◌++◌, length, sym, ◌∙◌, ap, subst, arith}
+use Rattle.std.proofs.lemmas.List.{append_assoc, append-nil}
+use Rattle.sp_defs.specs.Laurent.{Laurent}
+use Rattle.sp_fock_law.specs.Sparse.{Cells, IsSparse, IsSparseFrom, spread, spread_from}
+use Rattle.sp_fock.specs.Rows.{cells_at}
+use Rattle.sp_fock_law.proofs.Sparse.{IsSparseFrom-append, IsSparseFrom-wider, spread-append, spread-append_zero}
+use Rattle.sp_fock_law.proofs.Sparse.{length-spread}
+use Rattle.sp_fock_law.proofs.Sparse.{spread_from-gap, spread_from-here}
+
+-- Some first cells of a row, as a list of those that aren't 0, and the cells after them.
+pub record IsRowSoFar (whole : List Laurent) (place : ℕ) (cells : Cells) (rest : List Laurent) : Type 0 where
+  pub sparse : IsSparse place cells
+  pub row : spread place cells ++ rest ≡ whole
+
+module _ (whole : List Laurent) (place : ℕ) (cells : Cells) (rest others : List Laurent)
+    (so_far : IsRowSoFar whole place cells rest) where
+  before_next : (p : Laurent) → rest ≡ p ∷ others → (next : Cells)
+      → spread (place + 1) (cells ++ next) ≡ spread place cells ++ p ∷ []
+      → spread (place + 1) (cells ++ next) ++ others ≡ whole
+  before_next p split next made =
+      ap (λ ps. ps ++ others) made
+      ∙ append_assoc (spread place cells) (p ∷ []) others
+      ∙ ap (λ ps. spread place cells ++ ps) (sym split)
+      ∙ so_far.row
+
+  -- A cell goes to the end of the list, unless it is 0.
+  pub one_more : (p : Laurent) → rest ≡ p ∷ others → IsRowSoFar whole (place + 1) (cells ++ cells_at place p) others
+  one_more [] split = record {
+    sparse =
+        subst (IsSparse (place + 1)) (sym (append-nil cells))
+        (IsSparseFrom-wider 0 place (place + 1) cells (omega arith) so_far.sparse);
+    row =
+        before_next [] split []
+        (ap (spread (place + 1)) (append-nil cells) ∙ spread-append_zero place cells so_far.sparse);
+  }
+  one_more (t ∷ ts) split = record {
+    sparse =
+        IsSparseFrom-append 0 place cells so_far.sparse place (t ∷ ts) (omega arith) (omega arith)
+        (λ e. cc);
+    row = before_next (t ∷ ts) split ((place, t ∷ ts) ∷ []) (spread-append place cells so_far.sparse (t ∷ ts));
+  }
+
+-- Where nothing is still to come, the list has the cells of the whole row.
+pub all_taken : (whole : List Laurent) (place : ℕ) (cells : Cells) → IsRowSoFar whole place cells []
+    → (IsSparse (length whole) cells) × (spread (length whole) cells ≡ whole)
+all_taken whole place cells so_far =
+    let row : spread place cells ≡ whole = sym (append-nil (spread place cells)) ∙ so_far.row in
+    let width : place ≡ length whole = sym (length-spread place cells) ∙ ap length row in
+    (subst (λ n. IsSparse n cells) width so_far.sparse, ap (λ n. spread n cells) (sym width) ∙ row)
+
+-- ---- along a row
+
+module _ (place width : ℕ) (cells : Cells) (lt : place < width) (sparse : IsSparseFrom place width cells) where
+  one_less : suc (width - (place + 1)) ≡ width - place
+  one_less = omega arith
+
+  -- The first cell isn't 0.
+  pub first_here : (c : ℕ × Laurent) (others : Cells) → cells ≡ c ∷ others → c.0 ≡ place
+      → spread_from place (width - place) cells ≡ c.1 ∷ spread_from (place + 1) (width - (place + 1)) others
+  first_here c others split here =
+      ap (λ n. spread_from place n cells) (sym one_less)
+      ∙ ap (spread_from place (suc (width - (place + 1)))) (split ∙ ap (λ k. (k, c.1) ∷ others) here)
+      ∙ spread_from-here place width (width - (place + 1)) c.1 others
+      (subst (λ cs. IsSparseFrom place width cs) (split ∙ ap (λ k. (k, c.1) ∷ others) here) sparse).3
+
+  -- The first cell is 0.
+  pub first_gap : IsSparseFrom (place + 1) width cells
+      → spread_from place (width - place) cells ≡ [] ∷ spread_from (place + 1) (width - (place + 1)) cells
+  first_gap later =
+      ap (λ n. spread_from place n cells) (sym one_less)
+      ∙ spread_from-gap place width (width - (place + 1)) cells later
+
+  -- Where the list doesn't begin here, it lies behind.
+  pub later_cells : (c : ℕ × Laurent) (others : Cells) → cells ≡ c ∷ others → c.0 ≢ place
+      → IsSparseFrom (place + 1) width cells
+  later_cells c others split ne =
+      let h = subst (λ cs. IsSparseFrom place width cs) split sparse in
+      subst (λ cs. IsSparseFrom (place + 1) width cs) (sym split) (omega arith, h.1, h.2, h.3)
+
+  pub no_cells : cells ≡ [] → IsSparseFrom (place + 1) width cells
+  no_cells none = subst (λ cs. IsSparseFrom (place + 1) width cs) (sym none) tt

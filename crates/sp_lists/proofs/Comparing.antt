@@ -1,0 +1,36 @@
+-- Two tests of two lists of numbers: by their elements, and by the lexicographic order.
+use Rattle.std.proofs.Common.{◌≡◌, ℕ, nat_eq, true, List, refl, sym, ◌∙◌, ap}
+use Rattle.std.proofs.Common.{Ordering, Less, Equal, Greater}
+use Rattle.std.specs.Ordering.{is_eq, nat_cmp, ordering_reverse}
+use Rattle.std.specs.Cmp.Lexicographic.{pointwise, slice_cmp, same_text, other_text}
+use Rattle.std.specs.FinMap.{slice_cmp-IsAntisymmetric, nat_cmp-IsAntisymmetric}
+use Rattle.std.proofs.lemmas.Cmp.{nat_list_cmp_total}
+use Rattle.std.proofs.lemmas.Bool.{true_from_ne_false}
+use Rattle.sp_lists.proofs.Elements.{same_tests}
+
+-- a list equals itself in the order
+equal_self : (xs : List ℕ) → slice_cmp nat_cmp xs xs ≡ Equal
+equal_self xs = own (slice_cmp nat_cmp xs xs) (nat_list_cmp_total.antisymm xs xs)
+  where
+    own : (o : Ordering) → o ≡ ordering_reverse o → o ≡ Equal
+    own Less e = absurd (cc)
+    own Equal e = refl
+    own Greater e = absurd (cc)
+
+is_equal : (o : Ordering) → is_eq o ≡ true → o ≡ Equal
+is_equal Less h = absurd (cc)
+is_equal Equal h = refl
+is_equal Greater h = absurd (cc)
+
+-- Two lists have the same elements exactly where neither is before the other.
+pub same_equality : (xs ys : List ℕ) → pointwise nat_eq xs ys ≡ is_eq (slice_cmp nat_cmp xs ys)
+same_equality xs ys = same_tests (pointwise nat_eq xs ys) (is_eq (slice_cmp nat_cmp xs ys)) one_way other_way
+  where
+    one_way : pointwise nat_eq xs ys ≡ true → is_eq (slice_cmp nat_cmp xs ys) ≡ true
+    one_way e =
+        ap (λ zs. is_eq (slice_cmp nat_cmp xs zs)) (sym (same_text xs ys (sym e))) ∙ ap is_eq (equal_self xs)
+
+    other_way : is_eq (slice_cmp nat_cmp xs ys) ≡ true → pointwise nat_eq xs ys ≡ true
+    other_way e =
+        true_from_ne_false (pointwise nat_eq xs ys) (λ h. other_text xs ys (sym h)
+        (slice_cmp-IsAntisymmetric nat_cmp-IsAntisymmetric xs ys (is_equal (slice_cmp nat_cmp xs ys) e)))
