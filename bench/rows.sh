@@ -1,11 +1,13 @@
 #!/usr/bin/env bash
-# Times all rows of a degree, as pages of matrices, for e = 2 and 3 and degrees 10, 12, .. 20, and counts instructions
-# of one of them. Each page is a run of the program, so its start and the printing are counted too.
-# Usage: bench/rows.sh [BASELINE.rs]. BASELINE.rs is an unverified program of the same algorithm, which is compiled and
-# run as `BASELINE E N --mode naive --print`, and with `--mode trie`. Seconds are the least of five runs each, interleaved.
+# Times all rows of a degree, as pages of matrices, and counts the instructions of one of them. Each page is a run of the
+# program, so its start and the printing are counted too; the programs take turns, and the least processor time of RUNS
+# runs is taken (eleven; three from degree 24 on), with the greatest resident size.
+# Usage: bench/rows.sh [BASELINE.rs [RUNS]]. BASELINE.rs is an unverified program of the same algorithm, which is compiled
+# and run as `BASELINE E N --mode naive --print` and with `--mode trie`; the plain mode is left out from degree 24 on.
 set -u
 top=$(cd "$(dirname "$0")/.." && pwd)
 source=${1:-}
+runs=${2:-11}
 "$top/specht" "$top/examples/first.txt" >/dev/null || exit 1
 binary=$top/crates/specht_one/out/specht_one
 work=$(mktemp -d)
@@ -15,35 +17,46 @@ if [ -n "$source" ]; then
   rustc -C opt-level=3 -C target-cpu=native "$source" -o "$work/baseline" 2>/dev/null && baseline=$work/baseline
 fi
 
-python3 - "$binary" "$baseline" <<'PY'
-import subprocess, sys, time
-ours, baseline = sys.argv[1], sys.argv[2]
+python3 - "$binary" "$baseline" "$runs" <<'PY'
+import os, subprocess, sys
+ours, baseline, runs = sys.argv[1], sys.argv[2], int(sys.argv[3])
 
-def run(command, line):
-    start = time.perf_counter()
-    subprocess.run(command, input=line, stdout=subprocess.DEVNULL, stderr=subprocess.DEVNULL, check=True)
-    return time.perf_counter() - start
+def run(command, text):
+    """The processor seconds and the greatest resident size in MB of one run."""
+    read, write = os.pipe()
+    os.write(write, text)
+    os.close(write)
+    with open(os.devnull, "w") as none:
+        ran = subprocess.Popen(command, stdin=read, stdout=none, stderr=none)
+    os.close(read)
+    _, status, used = os.wait4(ran.pid, 0)
+    ran.returncode = status
+    if status:
+        raise SystemExit(f"{command} ended with {status}")
+    return used.ru_utime + used.ru_stime, used.ru_maxrss / 1000
 
-for e in (2, 3):
-    for n in range(10, 21, 2):
-        line = f"crystal {e} {n}\n".encode()
-        commands = {"program": ([ours], line)}
-        if baseline:
-            for mode in ("naive", "trie"):
-                commands[mode] = ([baseline, str(e), str(n), "--mode", mode, "--print"], b"")
-        best = {}
-        for _ in range(5):
-            for name, (command, text) in commands.items():
-                taken = run(command, text)
-                best[name] = min(best.get(name, taken), taken)
-        told = [f"{name} {seconds:.4f} s" for name, seconds in best.items()]
-        if baseline:
-            told += [f"ratio to {mode} {best['program'] / best[mode]:.1f}" for mode in ("naive", "trie")]
-        print(f"e = {e}, n = {n}: " + ", ".join(told), flush=True)
+pages = [(e, n) for e in (2, 3) for n in (14, 16, 18, 20, 24, 28, 30)]
+for e, n in pages:
+    commands = {"program": ([ours], f"crystal {e} {n}\n".encode())}
+    if baseline:
+        for mode in ("trie",) if n >= 24 else ("naive", "trie"):
+            commands[mode] = ([baseline, str(e), str(n), "--mode", mode, "--print"], b"")
+    best = {name: (float("inf"), 0) for name in commands}
+    for _ in range(min(runs, 3) if n >= 24 else runs):
+        for name, (command, text) in commands.items():
+            taken, memory = run(command, text)
+            best[name] = min(best[name][0], taken), max(best[name][1], memory)
+    told = [f"{name} {seconds:.4f} s {memory:.0f} MB" for name, (seconds, memory) in best.items()]
+    told += [f"ratio to {name} {best['program'][0] / best[name][0]:.2f}" for name in commands if name != "program"]
+    print(f"e = {e}, n = {n}: " + ", ".join(told), flush=True)
+
+for line in ("crystal 64 30", "block 3 1 9", "row 2 30"):
+    taken, memory = run([ours], line.encode())
+    print(f"{line}: {taken:.3f} s {memory:.0f} MB", flush=True)
 PY
 
 if command -v valgrind >/dev/null; then
-  echo 'crystal 2 16' >"$work/line"
+  echo 'crystal 2 20' >"$work/line"
   valgrind --tool=callgrind --callgrind-out-file="$work/callgrind" "$binary" <"$work/line" >/dev/null 2>"$work/log"
-  echo "instructions of crystal 2 16: $(sed -n 's/.*Collected : //p' "$work/log")"
+  echo "instructions of crystal 2 20: $(sed -n 's/.*Collected : //p' "$work/log")"
 fi

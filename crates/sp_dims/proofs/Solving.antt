@@ -14,9 +14,11 @@ use Rattle.sp_lists.proofs.Elements.{filter_append, all_append}
 use Rattle.sp_shapes.proofs.Order.{equal_self}
 use Rattle.sp_fock_law.proofs.Vectors.{earlier_than}
 use Rattle.sp_module_defs.specs.Agreement.{Cells}
+use Rattle.sp_module_defs.specs.Cells.{IsSquareUnitriangular}
 use Rattle.sp_module_defs.specs.Dims.{Dims, composed_dim, specht_dim, dim_weight}
+use Rattle.sp_module_defs.proofs.Places.{Descends}
 use Rattle.sp_dims.specs.Equation.{next_dim, known_weight}
-use Rattle.sp_dims.specs.Solution.{IsUnitriangular, IsSolution, first_past}
+use Rattle.sp_dims.specs.Solution.{IsSolution, first_past}
 
 -- ---- sums over columns
 
@@ -130,10 +132,6 @@ past limit d known (lambda ∷ rest) =
     cond (nat_lt limit (known_weight d known lambda)) (Some lambda)
     (past limit d (known ++ (lambda, next_dim d known lambda) ∷ []) rest)
 
-abbrev pub Descends : List (List ℕ) → Type 0
-Descends [] = Unit {0}
-Descends (lambda ∷ rest) = AllByRecursion (λ mu. compare lambda mu ≡ Greater) rest × Descends rest
-
 -- The known columns are greater than each of these.
 abbrev AllOver : Dims → List (List ℕ) → Type 0
 AllOver known columns = AllByRecursion (λ mu. AllByRecursion (λ t. compare t.0 mu ≡ Greater) known) columns
@@ -196,7 +194,8 @@ past-first_past limit d columns h = past_first limit d [] columns h (none_over c
 -- ---- unitriangular matrices
 
 -- The columns descend, so the later ones have 0 at each line.
-pub upper : (d : Cells) (columns : List (List ℕ)) → Descends columns → IsUnitriangular columns d → IsUpper d columns
+pub upper : (d : Cells) (columns : List (List ℕ)) → Descends columns → IsSquareUnitriangular columns d →
+    IsUpper d columns
 upper d columns h u = go columns h u.own u.greater
   where
     firsts : (lambda : List ℕ) (cs rest : List (List ℕ)) → AllByRecursion (λ mu. compare lambda mu ≡ Greater) rest →

@@ -1,18 +1,8 @@
 -- The only solution of the equations for the simple dimensions, and the first column that is too large.
-use Rattle.std.specs.Prelude.{◌≡◌, ℕ, List, Option, Some, None, nat_lt, find, ℤ, []}
-use Rattle.std.specs.List.{AllByRecursion, zip}
-use Rattle.std.specs.declared.cmp.Ordering.TheVariants.{Greater}
-use Rattle.sp_defs.specs.Partition.{compare}
-use Rattle.sp_defs.specs.Laurent.{one}
+use Rattle.std.specs.Prelude.{◌≡◌, ℕ, List, Option, Some, None, nat_lt, find, ℤ}
+use Rattle.std.specs.List.{zip}
 use Rattle.sp_module_defs.specs.Agreement.{Cells}
 use Rattle.sp_module_defs.specs.Dims.{IsSimpleDims, dim_weight}
-
--- Each column has 1 at its own line, and 0 at the lines of greater columns.
--- (Mathas, Iwahori-Hecke Algebras and Schur Algebras of the Symmetric Group, ch. 2)
-pub record IsUnitriangular (columns : List (List ℕ)) (d : Cells) : Type 0 where
-  pub own : AllByRecursion (λ mu. d mu mu ≡ one) columns
-  pub greater :
-      AllByRecursion (λ mu. AllByRecursion (λ lambda. compare lambda mu ≡ Greater → d lambda mu ≡ []) columns) columns
 
 -- These are the dimensions of the simple modules, and no others solve the equations.
 -- (Mathas, Iwahori-Hecke Algebras and Schur Algebras of the Symmetric Group, ch. 2)

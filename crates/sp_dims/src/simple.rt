@@ -4,8 +4,8 @@ ghost use Rattle.std.specs.Prelude.{length, position, nat_eq, [], ◌∷◌, ◌
 ghost use Rattle.std.specs.Cmp.Lexicographic.{pointwise};
 ghost use Rattle.std.specs.List.{zip};
 ghost use Rattle.sp_fock_law.specs.Grid.{IsGrid};
-ghost use Rattle.sp_dims.specs.Cells.{cell_at, place};
-ghost use Rattle.sp_dims.specs.Solution.{IsUnitriangular, IsWithin, IsPast};
+ghost use Rattle.sp_module_defs.specs.Cells.{IsSquareUnitriangular, cell_at, place};
+ghost use Rattle.sp_dims.specs.Solution.{IsWithin, IsPast};
 ghost use Rattle.sp_dims.specs.Equation.{next_dim as next_dim_of, known_weight};
 
 use crate::equation::solve;
@@ -20,7 +20,7 @@ use std::alloc::{AllocError, Global};
 /// is the dimension of its Specht module and the absolute values of its cells at v = 1, each times that of the
 /// dimension, over the greater columns.
 pub fn simple_dims(alloc: Global, grid: &Grid, limit: u128) -> Result<Vec<i128>, DimsFault>
-    requires triangular { IsUnitriangular grid.now.columns (cell_at grid.now) }
+    requires triangular { IsSquareUnitriangular grid.now.columns (cell_at grid.now) }
     requires least { 1 ≤ limit }
     requires most { limit < 2 ^ 127 }
     ensures dims { IfOk result (λ dims. IsWithin limit grid.now.columns (cell_at grid.now) dims.items) }
@@ -55,7 +55,8 @@ fn next_dim(grid: &Grid, column: &Partition, known: &[i128], limit: u128) -> Opt
         (limit < known_weight (cell_at grid.now) (zip grid.now.columns known.now) column.now) }
 {
     solve(
-        grid.row(line_of(grid, column)),
+        grid,
+        line_of(grid, column),
         known,
         specht_dim(column),
         limit,

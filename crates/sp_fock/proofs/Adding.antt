@@ -55,6 +55,13 @@ added_nought a = plus_of (times_nought a)
     plus_of : {q : Laurent} → q ≡ [] → plus [] q ≡ []
     plus_of {q} e = subst (λ r. plus [] r ≡ []) (sym e) (plus_nought [] nought_laurent)
 
+-- Where the second is 0, the first is the sum.
+pub added_nothing : (a p : Laurent) → IsLaurent p → p ≡ added a p []
+added_nothing a p h = sym (plus_of (times_nought a))
+  where
+    plus_of : {q : Laurent} → q ≡ [] → plus p q ≡ p
+    plus_of {q} e = subst (λ r. plus p r ≡ p) (sym e) (plus_nought p h)
+
 sum_entries : (n : ℕ) (a : Laurent) (es fs : Entries) → IsVector n es → IsVector n fs
     → combined (added a) (joined es fs) ≡ entries n (plus_scaled (vector_of es) a (vector_of fs))
 sum_entries n a es fs he hf = combined-entries n (added a) (added_nought a) es fs he hf

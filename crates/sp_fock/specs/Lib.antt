@@ -7,3 +7,5 @@ pub mod Print
 pub mod Growth
 pub mod Cells
 pub mod Rows
+pub mod Merged
+pub mod Left

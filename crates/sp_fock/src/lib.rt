@@ -5,6 +5,8 @@
 mod fault;
 mod grid;
 mod joined;
+mod meeting;
+mod merged;
 mod row;
 mod sums;
 mod tally;

@@ -81,8 +81,8 @@ impl Tally {
     {
         let Tally { vector, totals } = self;
         let grown = grown_totals(alloc, &totals, a.size(), w.pairs(), limit)?;
-        let mut left = vector;
-        left.add_scaled(alloc, &a.negate(alloc)?, w, limit)?;
+        let negated = a.negate(alloc)?;
+        let left = vector.plus_scaled(alloc, &negated, w, limit)?;
         Ok(Tally {
             vector: left,
             totals: grown,

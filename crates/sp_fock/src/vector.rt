@@ -135,7 +135,8 @@ impl Vector {
         if !self.sum_fits(a, w, limit) {
             return Err(FockFault::TooLarge);
         }
-        *self = self.sum(alloc, a, w, limit)?;
+        let copy = self.copy(alloc)?;
+        *self = copy.plus_scaled(alloc, a, w, limit)?;
         Ok(())
     }
 
@@ -148,18 +149,25 @@ impl Vector {
     }
 
     // This and `a` times `w`.
-    fn sum(&self, alloc: Global, a: &Laurent, w: &Vector, limit: u128) -> Result<Vector, FockFault>
-        requires one_degree { self.now.degree ≡ w.now.degree }
+    pub(crate) fn plus_scaled(
+        self,
+        alloc: Global,
+        a: &Laurent,
+        w: &Vector,
+        limit: u128,
+    ) -> Result<Vector, FockFault>
+        requires one_degree { self.degree ≡ w.now.degree }
         requires least { 1 ≤ limit }
         requires most { limit < 2 ^ 127 }
         requires within { AllByRecursion (λ t. ProductWithin power_limit a.now t.1) w.now.entries }
-        requires fits { scaled_sum_weight self.now a.now w.now ≤ limit }
-        ensures sum { IfOk result (λ sum. sum ≡ scaled_sum self.now a.now w.now) }
+        requires fits { scaled_sum_weight self a.now w.now ≤ limit }
+        ensures sum { IfOk result (λ sum. sum ≡ scaled_sum self a.now w.now) }
         ensures fits { ¬ IsErrOf result FockFault.TooLarge }
     {
+        let Vector { degree, pairs } = self;
         Ok(Vector {
-            degree: self.degree,
-            pairs: sum_of(alloc, &self.pairs, a, &w.pairs, limit)?,
+            degree,
+            pairs: sum_of(alloc, pairs, a, &w.pairs, limit)?,
         })
     }
 }

@@ -5,7 +5,9 @@ use Rattle.std.proofs.Common.{map, filter, take, set, length, get_or, nat_eq, na
 use Rattle.std.proofs.Common.{refl, sym, ◌∙◌, ap, ap₂}
 use Rattle.std.proofs.Common.{subst, arith, append_assoc, zero-add}
 use Rattle.std.proofs.lemmas.Bool.{eqb-true, eqb-false, ne_eqb, ltb-true, lt-ltb, le-ltb}
-use Rattle.std.proofs.lemmas.List.{map-append}
+use Rattle.std.proofs.lemmas.List.{map-append, append-nil}
+use Rattle.sp_lists.proofs.Sums.{sum-alike, sum-plus, sum-zeros}
+use Rattle.sp_ladder.specs.declared.counting.TheConstants.{LADDERS}
 use Rattle.sp_ladder.specs.declared.step.Step.{Step}
 use Rattle.sp_ladder.specs.Steps.{step_on}
 use Rattle.std.proofs.lemmas.List.FromFn.{map-range_with_len_more, length-map-range_with_len}
@@ -16,7 +18,7 @@ use Rattle.std.proofs.Math.Nat.{mul-le-mul}
 use Rattle.sp_defs.specs.Partition.{degree, from_one_to}
 use Rattle.sp_partition.specs.Held.{IsHeld}
 use Rattle.sp_shapes.proofs.Diagram.{degree-nodes}
-use Rattle.sp_lists.proofs.Elements.{range_snoc}
+use Rattle.sp_lists.proofs.Elements.{range_snoc, all_every}
 use Rattle.std.proofs.lemmas.List.Elements.{filter-append}
 use Rattle.sp_defs.specs.Node.{Node, nodes, nodes_from}
 use Rattle.sp_defs.specs.Ladder.{ladder_of, on_ladder}
@@ -34,10 +36,6 @@ unfolding nodes_from
 nodes_from-more r p [] =
     let own : 0 + r ≡ r = omega arith in
     append-nil (row_nodes r p) ∙ ap (λ k. row_nodes k p) (sym own)
-  where
-    append-nil : (xs : List Node) → xs ++ [] ≡ xs
-    append-nil [] = refl
-    append-nil (x ∷ xs) = ap (λ r. x ∷ r) (append-nil xs)
 nodes_from-more r p (q ∷ parts) =
     let next : length parts + suc r ≡ suc (length parts) + r = omega arith in
     ap (λ xs. row_nodes r q ++ xs) (nodes_from-more (suc r) p parts)
@@ -58,6 +56,7 @@ nodes-more parts i d lt =
 abbrev pub count_on : ℕ → ℕ → List Node → ℕ
 count_on e l xs = count_by (λ x. nat_eq (ladder_of e x) l) xs
 
+-- In two lists joined.
 pub count_on-append : (e l : ℕ) (xs ys : List Node) → count_on e l (xs ++ ys) ≡ count_on e l xs + count_on e l ys
 count_on-append e l xs ys = sum_by-append (λ x. cond (nat_eq (ladder_of e x) l) 1 0) xs ys
 
@@ -98,6 +97,7 @@ count_on-few e l r n =
     let size : length (row_nodes r n) ≡ n = length-map-range_with_len (λ c. (r, c)) 1 n in
     omega (arith, count_by-le-length (λ x. nat_eq (ladder_of e x) l) (row_nodes r n), size)
 
+-- One column further is e - 1 ladders later.
 pub next_column : (e row k ladder : ℕ) → ladder ≡ row + (e - 1) * k → ladder + (e - 1) ≡ row + (e - 1) * (k + 1)
 next_column e row k ladder at = omega (arith, at)
 
@@ -113,10 +113,10 @@ inside e row k part ladder most at he lt h =
 
 -- ---- the rows of a partition of at most 32
 
--- What is known of row i, counted from 0.
+-- What is known of row i, counted from 0: its ladders fit the table, and so do the counts with it.
 pub record Row (e i : ℕ) (parts : List ℕ) : Type 0 where
   pub positive : 0 < get_or parts i 0
-  pub few : i + get_or parts i 0 ≤ 32
+  pub fits : i + 1 + 63 * (get_or parts i 0 - 1) < LADDERS
   pub room : (l : ℕ) → count_on e l (nodes (take i parts)) + get_or parts i 0 ≤ 32
 
 rows_before : (i : ℕ) (parts : List ℕ) → i ≤ length parts → ((k : ℕ) → k < length parts → 0 < get_or parts k 0) →
@@ -129,6 +129,7 @@ rows_before (suc i) parts le pos =
     sum_by_more (λ x. x) parts i 0 (omega arith) in
     subst (λ n. n ≤ sum (take n parts)) (sym next) (omega (arith, before, more, pos i (omega arith)))
 
+-- Each row of a partition that the code holds has this.
 pub row : (e i : ℕ) (parts : List ℕ) → IsHeld parts → i < length parts → Row e i parts
 row e i parts held lt =
     let pos : (k : ℕ) → k < length parts → 0 < get_or parts k 0 = λ k low. held.partition.positive k 0 low in
@@ -137,13 +138,20 @@ row e i parts held lt =
     let small : sum parts ≤ 32 = held.small in
     record {
       positive = pos i lt;
-      few = omega (arith, rows_before i parts (omega arith) pos, more, part, small);
+      fits = omega (arith, rows_before i parts (omega arith) pos, more, part, small, pos i lt);
       room = λ l.
           let nodes_few : count_on e l (nodes (take i parts)) ≤ length (nodes (take i parts)) =
           count_by-le-length (λ x. nat_eq (ladder_of e x) l) (nodes (take i parts)) in
           omega (arith, nodes_few, degree-nodes 1 (take i parts), more, part, small);
     }
 
+-- So does a row that the code counts from 1.
+pub row_fits : (e i r : ℕ) (parts : List ℕ) → IsHeld parts → i < length parts → r ≡ i →
+    r + 1 + 63 * (get_or parts i 0 - 1) < LADDERS
+row_fits e i r parts held lt same =
+    subst (λ n. n + 1 + 63 * (get_or parts i 0 - 1) < LADDERS) (sym same) (row e i parts held lt).fits
+
+-- A partition that the code holds has at most 32 rows.
 pub rows_few : (parts : List ℕ) → IsHeld parts → length parts ≤ 32
 rows_few parts held =
     let pos : (k : ℕ) → k < length parts → 0 < get_or parts k 0 = λ k low. held.partition.positive k 0 low in
@@ -151,10 +159,7 @@ rows_few parts held =
     let small : sum parts ≤ 32 = held.small in
     omega (arith, rows_before (length parts) parts (omega arith) pos, part, small)
 
--- Row i + 1 fits the table of ladders.
-pub row_small : (i p : ℕ) → 0 < p → i + p ≤ 32 → i + 1 + 63 * (p - 1) < 1955
-row_small i p pos few = omega (arith, pos, few)
-
+-- The counts of the first rows, and of one row more.
 pub counted_row : (e l i before after : ℕ) (parts : List ℕ) → i < length parts →
     before ≡ count_on e l (nodes (take i parts)) →
     after ≡ before + count_on e l (row_nodes (i + 1) (get_or parts i 0)) → after
@@ -163,11 +168,6 @@ counted_row e l i before after parts lt so_far more =
     more ∙ ap (λ n. n + count_on e l (row_nodes (i + 1) (get_or parts i 0))) so_far
     ∙ sym (ap (count_on e l) (nodes-more parts i 0 lt)
     ∙ count_on-append e l (nodes (take i parts)) (row_nodes (i + 1) (get_or parts i 0)))
-
-pub zero_at : (size n : ℕ) → ◌≡◌ {A = ℕ} (get_or (replicate size 0) n 0) 0
-zero_at zero n = refl
-zero_at (suc size) zero = refl
-zero_at (suc size) (suc n) = zero_at size n
 
 -- ---- the greatest ladder
 
@@ -203,6 +203,7 @@ greatest_in_row e m r (suc n) =
         let c : suc n + 1 - 1 ≡ n + 1 = omega arith in ap (λ k. r + (e - 1) * k) c in
         omega (arith, before, here, there)
 
+-- The greatest ladder of the first rows, and of one row more.
 pub greatest_row : (e i before after : ℕ) (parts : List ℕ) → i < length parts → 0 < get_or parts i 0 →
     before ≡ greatest_ladder e 0 (nodes (take i parts)) → after ≡ max before (ladder_of e (i + 1, get_or parts i 0)) →
     after ≡ greatest_ladder e 0 (nodes (take (i + 1) parts))
@@ -238,43 +239,25 @@ one_ladder v a (suc k) = by_test (nat_eq v a) refl (one_ladder v (a + 1) k)
           arith,
           sum_by-cons (λ l. cond (nat_eq v l) 1 0) a (range_with_len (a + 1) k),
           head,
-          none_later (a + 1) k
-              (omega arith),
+          none_later (a + 1) k (omega arith),
         )
     by_test false is rest =
         let head : ◌≡◌ {A = ℕ} (cond (nat_eq v a) 1 0) 0 = ap (λ t. cond t 1 0) is in
         omega (arith, sum_by-cons (λ l. cond (nat_eq v l) 1 0) a (range_with_len (a + 1) k), head, rest)
 
-sums_plus : {X : Type 0} (f g : X → ℕ) (xs : List X) → sum_by (λ x. f x + g x) xs ≡ sum_by f xs + sum_by g xs
-sums_plus f g [] = refl
-sums_plus f g (x ∷ xs) =
-    let fs : sum_by f (x ∷ xs) ≡ f x + sum_by f xs = sum_by-cons f x xs in
-    let gs : sum_by g (x ∷ xs) ≡ g x + sum_by g xs = sum_by-cons g x xs in
-    let both : sum_by (λ x. f x + g x) (x ∷ xs) ≡ f x + g x + sum_by (λ x. f x + g x) xs =
-    sum_by-cons (λ x. f x + g x) x xs in
-    omega (arith, fs, gs, both, sums_plus f g xs)
-
-sums_alike : {X : Type 0} (f g : X → ℕ) (xs : List X) → ((x : X) → f x ≡ g x) → sum_by f xs ≡ sum_by g xs
-sums_alike f g [] same = refl
-sums_alike f g (x ∷ xs) same =
-    sum_by-cons f x xs ∙ ap₂ (λ a b. a + b) (same x) (sums_alike f g xs same) ∙ sym (sum_by-cons g x xs)
-
 counts_within : (e a k : ℕ) (xs : List Node) → sum_by (λ l. count_on e l xs) (range_with_len a k) ≤ length xs
-counts_within e a k [] = zeros (range_with_len a k)
-  where
-    zeros : (ls : List ℕ) → sum_by (λ l. count_on e l []) ls ≤ 0
-    zeros [] = omega arith
-    zeros (l ∷ ls) = omega (arith, sum_by-cons (λ l. count_on e l []) l ls, zeros ls)
+counts_within e a k [] = omega (arith, sum-zeros (range_with_len a k))
 counts_within e a k (x ∷ xs) =
     let split : sum_by (λ l. count_on e l (x ∷ xs)) (range_with_len a k)
     ≡ sum_by (λ l. cond (nat_eq (ladder_of e x) l) 1 0 + count_on e l xs) (range_with_len a k) =
-    sums_alike (λ l. count_on e l (x ∷ xs)) (λ l. cond (nat_eq (ladder_of e x) l) 1 0 + count_on e l xs)
+    sum-alike (λ l. count_on e l (x ∷ xs)) (λ l. cond (nat_eq (ladder_of e x) l) 1 0 + count_on e l xs)
     (range_with_len a k)
-    (λ l. sum_by-cons (λ y. cond (nat_eq (ladder_of e y) l) 1 0) x xs) in
+    (all_every (λ l. count_on e l (x ∷ xs) ≡ cond (nat_eq (ladder_of e x) l) 1 0 + count_on e l xs)
+    (range_with_len a k) (λ l. sum_by-cons (λ y. cond (nat_eq (ladder_of e y) l) 1 0) x xs)) in
     omega (
       arith,
       split,
-      sums_plus (λ l. cond (nat_eq (ladder_of e x) l) 1 0) (λ l. count_on e l xs) (range_with_len a k),
+      sum-plus (λ l. cond (nat_eq (ladder_of e x) l) 1 0) (λ l. count_on e l xs) (range_with_len a k),
       one_ladder (ladder_of e x) a k,
       counts_within e a k xs,
     )
@@ -325,6 +308,7 @@ steps_few e k mu small some =
 
 -- ---- the steps found so far
 
+-- The next ladder has nodes: its step is the last of those found.
 pub found_more : (e ladder : ℕ) (mu : List ℕ) (found : List Step) → 1 ≤ ladder → 0 < on_ladder e mu ladder →
     found ≡ map (step_on e mu) (with_nodes e mu (ladder - 1)) →
     found ++ (step_on e mu ladder ∷ []) ≡ map (step_on e mu) (with_nodes e mu (ladder + 1 - 1))
@@ -340,6 +324,7 @@ found_more e ladder mu found least some so_far =
     ∙ map-append (step_on e mu) (with_nodes e mu k) (ladder ∷ [])
     ∙ ap (λ s. s ++ (step_on e mu ladder ∷ [])) (sym so_far))
 
+-- The next ladder has no node: no step is found.
 pub found_same : (e ladder : ℕ) (mu : List ℕ) (found : List Step) → 1 ≤ ladder → on_ladder e mu ladder ≤ 0 →
     found ≡ map (step_on e mu) (with_nodes e mu (ladder - 1)) → found
     ≡ map (step_on e mu) (with_nodes e mu (ladder + 1 - 1))
@@ -352,7 +337,3 @@ found_same e ladder mu found least none so_far =
     so_far ∙ sym (ap (λ n. map (step_on e mu) (with_nodes e mu n)) (sym next)
     ∙ ap (map (step_on e mu)) (with_nodes-more e k mu ∙ ap (λ t. with_nodes e mu k ++ cond t ((1 + k) ∷ []) []) is_none
     ∙ append-nil (with_nodes e mu k)))
-  where
-    append-nil : (xs : List ℕ) → xs ++ [] ≡ xs
-    append-nil [] = refl
-    append-nil (x ∷ xs) = ap (λ r. x ∷ r) (append-nil xs)

@@ -6,7 +6,7 @@ use Rattle.sp_defs.specs.Laurent.{Laurent}
 use Rattle.sp_defs.specs.Power.{entries}
 use Rattle.sp_defs.specs.Ladder.{ladder_vector}
 use Rattle.sp_defs.specs.Statements.{IsLabel, SameContent}
-use Rattle.sp_shapes.proofs.Order.{all_mono}
+use Rattle.sp_lists.proofs.Places.{all_weaken}
 use Rattle.sp_shapes.proofs.Listing.{all_partitions}
 use Rattle.sp_fock_law.proofs.Vectors.{all_at, vector_of-entries}
 use Rattle.sp_ladder_law.proofs.LadderLaw.{ladder_law}
@@ -19,10 +19,11 @@ at_entries : (e : ℕ) (mu : List ℕ) (P : List ℕ × Laurent → Type 0) →
     AllByRecursion P (entries (degree mu) (ladder_vector e mu))
 at_entries e mu P h =
     all_at P (partitions (degree mu)) (ladder_vector e mu)
-    (all_mono (IsPartitionOf (degree mu)) (λ x. ladder_vector e mu x ≢ [] → P (x, ladder_vector e mu x))
+    (all_weaken (IsPartitionOf (degree mu)) (λ x. ladder_vector e mu x ≢ [] → P (x, ladder_vector e mu x))
     (partitions (degree mu))
     (λ x is ne. h x is.partition ne) (all_partitions (degree mu)))
 
+-- The ladder law, entry by entry.
 pub obeys : (e : ℕ) (mu : List ℕ) → IsLabel e mu → ObeysLadderLaw e mu (entries (degree mu) (ladder_vector e mu))
 obeys e mu label = record {
   at_mu =

@@ -7,10 +7,12 @@ use Rattle.sp_defs.specs.Partition.{from_one_to}
 use Rattle.sp_defs.specs.Ladder.{Step}
 use Rattle.sp_lists.proofs.Elements.{range_snoc, filter_append}
 
+-- The numbers from n down to 1.
 unfoldable pub down_from : ℕ → List ℕ
 down_from zero = []
 down_from (suc n) = suc n ∷ down_from n
 
+-- They are the range from 1 to n, reversed.
 pub reverse_range : (n : ℕ) → reverse (from_one_to n) ≡ down_from n
 unfolding down_from
 reverse_range zero = refl
@@ -22,6 +24,7 @@ reverse_range (suc n) =
     next : (n : ℕ) → 1 + n ≡ suc n
     next n = omega arith
 
+-- What is kept and mapped of a reversed list is that of the list, reversed.
 pub reverse_kept : (f : ℕ → Step) (t : ℕ → Bool) (xs : List ℕ) →
     reverse (map f (filter t xs)) ≡ map f (filter t (reverse xs))
 reverse_kept f t [] = refl

@@ -1,5 +1,5 @@
 -- Sums over chains: the last step is a divided power, what is reached by steps, and that coefficients are positive.
-use Rattle.std.proofs.Common.{◌≡◌, ◌≢◌, ℕ, Bool, true, false, cond, List, [], ◌∷◌, map, filter, refl, sym}
+use Rattle.std.proofs.Common.{◌≡◌, ◌≢◌, ℕ, true, List, [], ◌∷◌, map, refl, sym}
 use Rattle.std.proofs.Common.{◌∙◌}
 use Rattle.std.proofs.Common.{ap, subst, ◌-◌}
 use Rattle.std.specs.List.{AllByRecursion}
@@ -7,7 +7,8 @@ use Rattle.sp_defs.specs.Partition.{degree, partitions, IsPartition, IsPartition
 use Rattle.sp_defs.specs.Laurent.{Laurent, times, power, IsLaurent, sum_over}
 use Rattle.sp_defs.specs.Power.{is_move, exponent, sources, divided_power}
 use Rattle.sp_defs.specs.Ladder.{Step, chains_to, chain_exponent, chain_sum}
-use Rattle.sp_lists.proofs.Elements.{all_every, all_map, all_flat}
+use Rattle.sp_lists.proofs.Elements.{all_every, all_map, all_flat, all_filter}
+use Rattle.sp_lists.proofs.Places.{all_weaken}
 use Rattle.sp_algebra.proofs.Laws.{times_nought}
 use Rattle.sp_algebra.proofs.Sums.{IsLaurent-sum_over, sum_over-alike, sum_over-flat, sum_over-map, times-sum_over}
 use Rattle.sp_algebra.proofs.Sums.{power-times, nonzero_term}
@@ -56,12 +57,6 @@ one_more e s earlier last before chain (rest, is) =
     (λ c. chain_power e (s ∷ earlier) (last ∷ c) ≡ times (step_power e s before last) (chain_power e earlier c))
     (sym is) (sym (power-times (exponent e s.residue before last) (chain_exponent e earlier (before ∷ rest))))
 
-all_one_more : (e : ℕ) (s : Step) (earlier : List Step) (last before : List ℕ) (chains : List (List (List ℕ))) →
-    AllByRecursion (Starts before) chains → AllByRecursion (OneMore e s earlier last before) chains
-all_one_more e s earlier last before [] h = tt
-all_one_more e s earlier last before (c ∷ chains) (h, hs) =
-    (one_more e s earlier last before c h, all_one_more e s earlier last before chains hs)
-
 -- the chains through one source
 by_source : (e : ℕ) (s : Step) (earlier : List Step) (last before : List ℕ) →
     sum_over (map (λ chain. last ∷ chain) (chains_to e earlier before)) (chain_power e (s ∷ earlier))
@@ -69,12 +64,14 @@ by_source : (e : ℕ) (s : Step) (earlier : List Step) (last before : List ℕ) 
 unfolding chain_sum OneMore
 by_source e s earlier last before =
     sum_over-map (λ chain. last ∷ chain) chains (chain_power e (s ∷ earlier))
-    ∙ sum_over-alike chains _ _ (all_one_more e s earlier last before chains (all_start e earlier before))
+    ∙ sum_over-alike chains _ _ (all_weaken (Starts before) (OneMore e s earlier last before) chains (one_more e s earlier last before)
+    (all_start e earlier before))
     ∙ sym (times-sum_over (step_power e s before last) chains (chain_power e earlier))
   where
     chains : List (List (List ℕ))
     chains = chains_to e earlier before
 
+-- One step more: the sum over chains is a divided power of the sum before.
 pub chain_step : (e : ℕ) (s : Step) (earlier : List Step) (last : List ℕ) →
     chain_sum e (s ∷ earlier) last ≡ divided_power e s.residue s.count (chain_sum e earlier) last
 unfolding chain_sum chains_to divided_power
@@ -92,12 +89,14 @@ chain_step e s earlier last =
     through : List ℕ → List (List (List ℕ))
     through before = map (λ chain. last ∷ chain) (chains_to e earlier before)
 
+-- A sum over chains is a Laurent polynomial.
 pub IsLaurent-chain_sum : (e : ℕ) (backward : List Step) (last : List ℕ) → IsLaurent (chain_sum e backward last)
 unfolding chain_sum
 IsLaurent-chain_sum e backward last = IsLaurent-sum_over (chains_to e backward last) (chain_power e backward)
 
 -- ---- what is reached: a partition with a chain of moves from the empty one
 
+-- The partition has a chain of moves from the empty one.
 unfoldable pub Reached : ℕ → List Step → List ℕ → Type 0
 Reached e [] last = last ≡ []
 Reached e (s ∷ earlier) last =
@@ -108,26 +107,15 @@ record Source (e : ℕ) (s : Step) (last before : List ℕ) : Type 0 where
   partition : IsPartitionOf (degree last - s.count) before
   move : is_move e s.residue s.count before last ≡ true
 
-kept_sources : (e : ℕ) (s : Step) (last : List ℕ) (xs : List (List ℕ)) →
-    AllByRecursion (IsPartitionOf (degree last - s.count)) xs →
-    AllByRecursion (Source e s last) (filter (λ before. is_move e s.residue s.count before last) xs)
-kept_sources e s last [] h = tt
-kept_sources e s last (x ∷ xs) (h, hs) =
-    tested (is_move e s.residue s.count x last) refl (kept_sources e s last xs hs)
-  where
-    kept : List (List ℕ)
-    kept = filter (λ before. is_move e s.residue s.count before last) xs
-
-    tested : (b : Bool) → is_move e s.residue s.count x last ≡ b → AllByRecursion (Source e s last) kept →
-        AllByRecursion (Source e s last) (cond b (x ∷ kept) kept)
-    tested true mv rest = (record { partition = h; move = mv }, rest)
-    tested false mv rest = rest
-
 all_sources : (e : ℕ) (s : Step) (last : List ℕ) →
     AllByRecursion (Source e s last) (sources e s.residue s.count last)
 unfolding sources
 all_sources e s last =
-    kept_sources e s last (partitions (degree last - s.count)) (all_partitions (degree last - s.count))
+    all_filter (Source e s last) (λ before. is_move e s.residue s.count before last)
+    (partitions (degree last - s.count))
+    (all_weaken (IsPartitionOf (degree last - s.count))
+    (λ x. is_move e s.residue s.count x last ≡ true → Source e s last x) (partitions (degree last - s.count))
+    (λ x h mv. record { partition = h; move = mv }) (all_partitions (degree last - s.count)))
 
 -- where the sum over chains is not 0, one of its sources is reached
 pub reached : (e : ℕ) (backward : List Step) (last : List ℕ) → chain_sum e backward last ≢ [] → Reached e backward last
@@ -149,6 +137,7 @@ reached e (s ∷ earlier) last ne = from (nonzero_term (Source e s last) (source
 
 -- ---- positive coefficients
 
+-- The coefficients of a sum over chains are positive.
 pub positive_chain_sum : (e : ℕ) (backward : List Step) (last : List ℕ) → AllPositive (chain_sum e backward last)
 unfolding chain_sum
 positive_chain_sum e backward last = positive_sum (chains_to e backward last) (chain_exponent e backward)

@@ -41,9 +41,11 @@ module _ (e L : ℕ) where
   abbrev pub high : Node → Bool
   high x = nat_le L (ladder_of e x)
 
+  -- How many of them stand in the first p places of row r.
   abbrev pub in_row : ℕ → ℕ → ℕ
   in_row r p = count_by high (map (λ c. (r, c)) (from_one_to p))
 
+  -- How many stand in the rows from r on.
   abbrev pub high_from : ℕ → List ℕ → ℕ
   high_from r parts = count_by high (nodes_from r parts)
 

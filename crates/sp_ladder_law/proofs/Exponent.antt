@@ -154,6 +154,7 @@ module _ (e : ℕ) (he : 2 ≤ e) (mu : List ℕ) (pm : IsPartition mu) (reg : i
 
   -- ---- the exponent
 
+  -- The move from one cut to the next has exponent 0.
   pub zero_exponent : (n : ℕ) →
       exponent e (ladder_residue e (suc n)) (upto e he mu pm n) (upto e he mu pm (suc n)) ≡ pos 0
   unfolding exponent

@@ -78,9 +78,11 @@ pieces false g q h (x ∷ xs) f =
 module _ (e : ℕ) (he : 2 ≤ e) (mu : List ℕ) (pm : IsPartition mu) where
   -- ---- the steps from the last ladder up to n to the first
 
+  -- The ladders of mu from n down to 1.
   pub back_to : ℕ → List ℕ
   back_to n = filter (λ l. nat_lt 0 (on_ladder e mu l)) (down_from n)
 
+  -- Their steps.
   pub back_steps : ℕ → List Step
   back_steps n = map (step_of e (on_ladder e mu)) (back_to n)
 
@@ -197,6 +199,7 @@ module _ (e : ℕ) (he : 2 ≤ e) (mu : List ℕ) (pm : IsPartition mu) where
     all_below_end : (r c : ℕ) → 1 ≤ r → 1 ≤ c → c ≤ part mu r → ladder_of e (r, c) ≤ ladders_end e mu
     all_below_end = at_node (λ x. ladder_of e x ≤ ladders_end e mu) mu (fold_bounds (ladder_of e) 0 (nodes mu))
 
+    -- A(mu) is 1 at mu.
     pub at_own : ladder_vector e mu mu ≡ one
     unfolding ladder_vector
     at_own =
@@ -265,6 +268,7 @@ module _ (e : ℕ) (he : 2 ≤ e) (mu : List ℕ) (pm : IsPartition mu) where
     unfolding ladder_vector
     nonzero_back lambda ne z = ne (ap (λ s. chain_sum e s lambda) steps_back ∙ z)
 
+    -- mu dominates each partition in A(mu).
     pub all_below : (lambda : List ℕ) → IsPartition lambda → ladder_vector e mu lambda ≢ [] → Dominates mu lambda
     unfolding back_steps
     all_below lambda pl ne = dominated e mu lambda he pm reg same_degree counts
@@ -289,6 +293,7 @@ module _ (e : ℕ) (he : 2 ≤ e) (mu : List ℕ) (pm : IsPartition mu) where
         counts L = le_trans (count_high e he (on_ladder e mu) L (suc n) (back_to n) lambda
             (back_down (suc n) n (omega arith)) pl there) (sum_within L n)
 
+-- The ladder law, for every e and every e-regular partition.
 pub ladder_law : LadderLaw
 unfolding ladder_vector
 ladder_law e mu h = record {

@@ -51,83 +51,85 @@ left_ladder e r b =
     sides d r b = omega arith
 
 module _ (e : ℕ) (he : 2 ≤ e) where
+  -- ---- a node that a step adds
+
+  module _ (l m : ℕ) (before after : List ℕ) (pa : IsPartition after)
+      (mv : Move e (ladder_residue e l) m before after) (r c : ℕ) (hr : 1 ≤ r) (hc : 1 ≤ c) (w : c ≤ part after r)
+      (out : part before r < c) where
+    -- Its left neighbour was there before, since neighbours have other residues.
+    left_before : 1 < c → c - 1 ≤ part before r
+    left_before more = settle (le_or_lt (c - 1) (part before r))
+      where
+        back : c - 1 + 1 ≡ c
+        back = omega arith
+
+        settle : (c - 1 ≤ part before r) ⊎ (part before r < c - 1) → c - 1 ≤ part before r
+        settle (inl is) = is
+        settle (inr new) =
+            absurd
+            (right_differs e r (c - 1) he
+            (ap (λ n. residue e (r, n)) back ∙ mv.residues r c hr hc w out
+            ∙ sym (mv.residues r (c - 1) hr (omega arith) (omega arith) new)))
+
+    -- And so was the node above it.
+    upper_before : 1 < r → c ≤ part before (r - 1)
+    upper_before more = settle (le_or_lt c (part before (r - 1)))
+      where
+        back : r - 1 + 1 ≡ r
+        back = omega arith
+
+        descends : part after r ≤ part after (r - 1)
+        descends = subst (λ n. slice_index after n ≤ slice_index after (r - 1 - 1)) place (pa.descending (r - 1 - 1))
+          where
+            place : r - 1 - 1 + 1 ≡ r - 1
+            place = omega arith
+
+        settle : (c ≤ part before (r - 1)) ⊎ (part before (r - 1) < c) → c ≤ part before (r - 1)
+        settle (inl is) = is
+        settle (inr new) =
+            absurd
+            (below_differs e (r - 1) c he
+            (ap (λ n. residue e (n, c)) back ∙ mv.residues r c hr hc w out
+            ∙ sym (mv.residues (r - 1) c (omega arith) hc (omega (arith, descends, w)) new)))
+
+    -- So its ladder is less than e past an earlier one, and by its residue at most l.
+    new_low : (below : ℕ) → below < l → Low e below before → ladder_of e (r, c) ≤ l
+    new_low below lt low = by_place (le_or_lt c 1) (le_or_lt r 1)
+      where
+        same : ladder_residue e (ladder_of e (r, c)) ≡ ladder_residue e l
+        same = sym (residue_ladder e r c he hc) ∙ mv.residues r c hr hc w out
+
+        first_column : (s : ℕ) → c ≤ 1 → ladder_of e (s, c) ≡ s
+        first_column s one = ap (λ n. s + (e - 1) * n) none ∙ no_more s (e - 1)
+          where
+            none : c - 1 ≡ 0
+            none = omega arith
+
+            no_more : (r d : ℕ) → r + d * 0 ≡ r
+            no_more r d = omega arith
+
+        one_right : 1 < c → ladder_of e (r, c) ≡ ladder_of e (r, c - 1) + (e - 1)
+        one_right more =
+            ap (λ n. ladder_of e (r, n)) two ∙ left_ladder e r (c - 2) ∙ ap (λ n. ladder_of e (r, n) + (e - 1)) one
+          where
+            two : c ≡ (c - 2) + 2
+            two = omega arith
+
+            one : (c - 2) + 1 ≡ c - 1
+            one = omega arith
+
+        by_place : (c ≤ 1) ⊎ (1 < c) → (r ≤ 1) ⊎ (1 < r) → ladder_of e (r, c) ≤ l
+        by_place (inr more) row =
+            let beside : ladder_of e (r, c - 1) ≤ below = low r (c - 1) hr (omega arith) (left_before more) in
+            ladder_step e (ladder_of e (r, c)) l he same (omega (arith, one_right more, beside))
+        by_place (inl one) (inr more) =
+            let above : ladder_of e (r - 1, c) ≤ below = low (r - 1) c (omega arith) hc (upper_before more) in
+            omega (arith, first_column r one, first_column (r - 1) one, above)
+        by_place (inl one) (inl first) = omega (arith, first_column r one)
+
   -- ---- no node has a later ladder than the last step
 
-  -- A node that the last step added: its left neighbour, or in the first column its upper one, was there before, since
-  -- neighbours have other residues. So its ladder is less than e past an earlier one, and by its residue at most l.
-  new_low : (l below : ℕ) (before after : List ℕ) (m : ℕ) → below < l → IsPartition after →
-      Move e (ladder_residue e l) m before after → Low e below before → (r c : ℕ) → 1 ≤ r → 1 ≤ c → c ≤ part after r →
-      part before r < c → ladder_of e (r, c) ≤ l
-  new_low l below before after m hl pa mv low r c hr hc w out = by_column (le_or_lt c 1)
-    where
-      same : ladder_residue e (ladder_of e (r, c)) ≡ ladder_residue e l
-      same = sym (residue_ladder e r c he hc) ∙ mv.residues r c hr hc w out
-
-      by_column : (c ≤ 1) ⊎ (1 < c) → ladder_of e (r, c) ≤ l
-      by_column (inl one) = by_row (le_or_lt r 1)
-        where
-          c1 : c ≡ 1
-          c1 = omega arith
-
-          flat : ladder_of e (r, c) ≡ r
-          flat = ap (λ n. r + (e - 1) * (n - 1)) c1 ∙ no_more r (e - 1)
-            where
-              no_more : (r d : ℕ) → r + d * 0 ≡ r
-              no_more r d = omega arith
-
-          by_row : (r ≤ 1) ⊎ (1 < r) → ladder_of e (r, c) ≤ l
-          by_row (inl first) = omega (arith, flat)
-          by_row (inr more) = above (le_or_lt 1 (part before (r - 1)))
-            where
-              desc : part after r ≤ part after (r - 1)
-              desc = subst (λ n. slice_index after n ≤ slice_index after (r - 1 - 1)) back (pa.descending (r - 1 - 1))
-                where
-                  back : r - 1 - 1 + 1 ≡ r - 1
-                  back = omega arith
-
-              above : (1 ≤ part before (r - 1)) ⊎ (part before (r - 1) < 1) → ladder_of e (r, c) ≤ l
-              above (inl is) =
-                  let f : ladder_of e (r - 1, 1) ≤ below = low (r - 1) 1 (omega arith) (omega arith) is in
-                  let g : r - 1 + (e - 1) * 0 ≡ r - 1 = no_more (r - 1) (e - 1) in omega (arith, flat)
-                where
-                  no_more : (r d : ℕ) → r + d * 0 ≡ r
-                  no_more r d = omega arith
-              above (inr out') =
-                  absurd
-                  (below_differs e (r - 1) c he
-                  (subst (λ n. residue e (n, c) ≡ residue e (r - 1, c)) (sym back)
-                  (mv.residues r c hr hc w out
-                  ∙ sym
-                  (mv.residues (r - 1) c (omega arith) hc (omega (arith, desc, w)) (omega arith)))))
-                where
-                  back : r - 1 + 1 ≡ r
-                  back = omega arith
-      by_column (inr more) = beside (le_or_lt (c - 1) (part before r))
-        where
-          c2 : c ≡ (c - 2) + 2
-          c2 = omega arith
-
-          c3 : (c - 2) + 1 ≡ c - 1
-          c3 = omega arith
-
-          beside : (c - 1 ≤ part before r) ⊎ (part before r < c - 1) → ladder_of e (r, c) ≤ l
-          beside (inl is) =
-              let f : ladder_of e (r, c - 1) ≤ below = low r (c - 1) hr (omega arith) is in
-              let g : ladder_of e (r, c) ≡ ladder_of e (r, c - 1) + (e - 1) =
-              ap (λ n. ladder_of e (r, n)) c2
-              ∙ left_ladder e r (c - 2)
-              ∙ ap (λ n. ladder_of e (r, n) + (e - 1)) c3 in
-              ladder_step e (ladder_of e (r, c)) l he same (omega arith)
-          beside (inr out') =
-              absurd
-              (right_differs e r (c - 1) he
-              (subst (λ n. residue e (r, n) ≡ residue e (r, c - 1)) (sym back)
-              (mv.residues r c hr hc w out
-              ∙ sym (mv.residues r (c - 1) hr (omega arith) (omega arith) out'))))
-            where
-              back : c - 1 + 1 ≡ c
-              back = omega arith
-
+  -- What is reached has no node on a later ladder than that of the last step.
   pub low_nodes : (m : ℕ → ℕ) (b : ℕ) (ls : List ℕ) (last : List ℕ) → Down b ls → IsPartition last →
       Reached e (map (step_of e m) ls) last → Low e (top ls) last
   unfolding Reached
@@ -140,11 +142,13 @@ module _ (e : ℕ) (he : 2 ≤ e) where
       settle (inl is) low =
           let f : ladder_of e (r, c) ≤ top ls = low r c hr hc is in
           let g : top ls < l = top_below l ls l1 d in omega arith
-      settle (inr out') low = new_low l (top ls) before last (m l) (top_below l ls l1 d) pl
-          (move_facts e (ladder_residue e l) (m l) before last mv) low r c hr hc w out'
+      settle (inr out) low =
+          new_low l (m l) before last pl (move_facts e (ladder_residue e l) (m l) before last mv) r c hr hc w out
+          (top ls) (top_below l ls l1 d) low
 
   -- ---- how many nodes stand on ladders from L on
 
+  -- Does the node stand on ladder L or a later one?
   abbrev pub high : ℕ → Node → Bool
   high L x = nat_le L (ladder_of e x)
 

@@ -45,6 +45,7 @@ module _ (e : ℕ) (he : 2 ≤ e) where
       (sym (le-leb r l (omega arith)))
       (cut_in l (suc r) parts k c hc w (omega arith))
 
+  -- And back: what is in a cut is in the partition, on the ladders up to l.
   pub cut_out : (l r : ℕ) (parts : List ℕ) (k c : ℕ) → 1 ≤ c → c ≤ slice_index (cut e l r parts) k →
       (c ≤ slice_index parts k) × (r + k + (e - 1) * (c - 1) ≤ l)
   unfolding cut
@@ -72,6 +73,7 @@ module _ (e : ℕ) (he : 2 ≤ e) where
             | false ↦ λ v. absurd (omega arith)
           ] w
 
+  -- A cut of a partition is one.
   pub IsPartition-cut : (l r : ℕ) (parts : List ℕ) → IsPartition parts → IsPartition (cut e l r parts)
   unfolding cut
   IsPartition-cut l r [] h = IsPartition-nil
@@ -98,15 +100,19 @@ module _ (e : ℕ) (he : 2 ≤ e) where
   -- ---- the partition mu, cut after ladder l
 
   module _ (mu : List ℕ) (pm : IsPartition mu) where
+    -- The nodes of mu on the ladders up to l.
     abbrev pub upto : ℕ → List ℕ
     upto l = cut e l 1 mu
 
+    -- They are a partition.
     pub IsPartition-upto : (l : ℕ) → IsPartition (upto l)
     IsPartition-upto l = IsPartition-cut l 1 mu pm
 
+    -- A node of mu on these ladders is in the cut.
     pub upto_in : (l r c : ℕ) → 1 ≤ r → 1 ≤ c → c ≤ part mu r → ladder_of e (r, c) ≤ l → c ≤ part (upto l) r
     upto_in l r c hr hc w h = cut_in l 1 mu (r - 1) c hc w (omega arith)
 
+    -- A node of the cut is one of mu, on these ladders.
     pub upto_out : (l r c : ℕ) → 1 ≤ r → 1 ≤ c → c ≤ part (upto l) r → (c ≤ part mu r) × (ladder_of e (r, c) ≤ l)
     upto_out l r c hr hc w = let q = cut_out l 1 mu (r - 1) c hc w in (q.0, omega (arith, q.1))
 
@@ -119,6 +125,7 @@ module _ (e : ℕ) (he : 2 ≤ e) where
         settle (inl z) = omega arith
         settle (inr h) = f k h
 
+    -- A later cut has all rows of an earlier one.
     pub upto_mono : (l n : ℕ) → l ≤ n → (k : ℕ) → slice_index (upto l) k ≤ slice_index (upto n) k
     upto_mono l n h = rows_from (upto l) (upto n)
         (λ k w.
@@ -213,6 +220,7 @@ module _ (e : ℕ) (he : 2 ≤ e) where
 
     -- ---- the step of the next ladder leads from one cut to the next
 
+    -- The step of the next ladder leads from one cut to the next.
     pub next_move : (n : ℕ) → Move e (ladder_residue e (suc n)) (on_ladder e mu (suc n)) (upto n) (upto (suc n))
     next_move n = record {
       rows = upto_mono n (suc n) (omega arith);
@@ -220,6 +228,7 @@ module _ (e : ℕ) (he : 2 ≤ e) where
       count = count_next n;
     }
 
+    -- A cut has as many nodes more as mu has on the next ladder.
     pub next_degree : (n : ℕ) → degree (upto (suc n)) ≡ degree (upto n) + on_ladder e mu (suc n)
     next_degree n =
         degree_added (upto n) (upto (suc n)) (IsPartition-upto n) (upto_mono n (suc n) (omega arith))
@@ -255,6 +264,7 @@ module _ (e : ℕ) (he : 2 ≤ e) where
 
     -- ---- a partition with as many nodes within a cut is the cut
 
+    -- A partition within a cut and of its degree is the cut.
     pub same_cut : (n : ℕ) (kappa : List ℕ) → IsPartition kappa →
         ((k : ℕ) → slice_index kappa k ≤ slice_index (upto n) k) → degree kappa ≡ degree (upto n) → kappa ≡ upto n
     same_cut n kappa pk le h = same_rows kappa (upto n) pk (IsPartition-upto n)
@@ -279,6 +289,7 @@ module _ (e : ℕ) (he : 2 ≤ e) where
         back : (k : ℕ) → k ≡ suc k - 1
         back k = omega arith
 
+    -- Before the first ladder nothing is there.
     pub cut_none : upto 0 ≡ []
     cut_none = same_rows (upto 0) [] (IsPartition-upto 0) IsPartition-nil
         (λ k.

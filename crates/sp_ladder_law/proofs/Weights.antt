@@ -12,13 +12,13 @@ use Rattle.sp_defs.specs.Power.{Vector, sources, exponent, divided_power, reachi
 use Rattle.sp_defs.specs.Ladder.{Step, steps, chain_sum, chains_to, chain_exponent, partial_ladder_vector}
 use Rattle.sp_defs.specs.Ladder.{ladder_vector, ladder_weight}
 use Rattle.sp_defs.specs.Statements.{IsLabel}
-use Rattle.sp_lists.proofs.Elements.{le_or_lt, all_left, all_right, all_flat, range_all, range_at}
+use Rattle.sp_lists.proofs.Elements.{le_or_lt, all_flat, flat_all, range_all, range_at}
+use Rattle.sp_lists.proofs.Places.{all_weaken}
 use Rattle.sp_lists.proofs.Greatest.{greatest_within, within_greatest, map_within, within_map}
 use Rattle.sp_algebra.proofs.Positive.{AllPositive}
 use Rattle.sp_algebra.proofs.PositiveSizes.{positive-power_times, size-power_times, size-sum_over}
-use Rattle.sp_shapes.proofs.Order.{all_mono}
 use Rattle.sp_shapes.proofs.Moves.{move_facts, degree_added}
-use Rattle.sp_shapes.proofs.Listing.{Occurs, all_partitions, each_partition}
+use Rattle.sp_shapes.proofs.Listing.{at_occurs, all_partitions, each_partition}
 use Rattle.sp_ladder_law.proofs.Chains.{Reached, chain_step, positive_chain_sum}
 use Rattle.sp_ladder_law.proofs.Chains.{reached}
 use Rattle.sp_ladder_law.proofs.LadderLaw.{ladder_law}
@@ -75,12 +75,14 @@ degree_after_all e mu h =
 
 -- ---- one step more
 
+-- One step more adds its nodes.
 pub nodes_added-more : (ss : List Step) (t : ℕ) (d : Step) → t < length ss →
     nodes_added (take (t + 1) ss) ≡ nodes_added (take t ss) + (get_or ss t d).count
 nodes_added-more ss t d lt =
     ap nodes_added (take_more ss t d lt) ∙ sum_by-append (λ s. s.count) (take t ss) (get_or ss t d ∷ [])
     ∙ ap (λ n. nodes_added (take t ss) + n) (zero-add (get_or ss t d).count)
 
+-- One step more is a divided power of the partial ladder vector.
 pub partial_step : (e : ℕ) (mu : List ℕ) (t : ℕ) (d : Step) (lambda : List ℕ) → t < length (steps e mu) →
     partial_ladder_vector e mu (t + 1) lambda
     ≡ divided_power e (get_or (steps e mu) t d).residue (get_or (steps e mu) t d).count
@@ -94,6 +96,7 @@ partial_step e mu t d lambda lt =
     back = ap reverse (take_more (steps e mu) t d lt)
         ∙ reverse-append (take t (steps e mu)) (get_or (steps e mu) t d ∷ [])
 
+-- The partial ladder vector after all steps is the ladder vector.
 pub partial_whole : (e : ℕ) (mu lambda : List ℕ) →
     partial_ladder_vector e mu (length (steps e mu)) lambda ≡ ladder_vector e mu lambda
 unfolding partial_ladder_vector ladder_vector
@@ -142,6 +145,7 @@ unfolding chain_sum chains_to chain_exponent sum_over plus collect add_term
 chain_sum_none e [] = omega arith
 chain_sum_none e (p ∷ parts) = omega arith
 
+-- Before the first step no size passes a limit of at least 1.
 pub within_first : (limit e : ℕ) (mu : List ℕ) → 1 ≤ limit → WithinUpTo limit e mu 0
 unfolding partial_ladder_vector
 within_first limit e mu h = record {
@@ -155,11 +159,6 @@ partial_positive : (e : ℕ) (mu : List ℕ) (t : ℕ) (lambda : List ℕ) → A
 unfolding partial_ladder_vector
 partial_positive e mu t lambda = positive_chain_sum e (reverse (take t (steps e mu))) lambda
 
-occurs_holds : {X : Type 0} (P : X → Type 0) (x : X) (xs : List X) → AllByRecursion P xs → Occurs x xs → P x
-occurs_holds P x [] h at = absurd at
-occurs_holds P x (y ∷ ys) (h, hs) (inl same) = subst P (sym same) h
-occurs_holds P x (y ∷ ys) (h, hs) (inr at) = occurs_holds P x ys hs at
-
 -- The sizes after step t are those that reach the partitions in the induction.
 size_after : (e : ℕ) (mu : List ℕ) (t : ℕ) (d : Step) (lambda : List ℕ) → t < length (steps e mu) →
     size (partial_ladder_vector e mu (t + 1) lambda)
@@ -170,6 +169,7 @@ size_after e mu t d lambda lt =
     ∙ size-divided_power e (get_or (steps e mu) t d).residue (get_or (steps e mu) t d).count
     (partial_ladder_vector e mu t) lambda (partial_positive e mu t)
 
+-- The weight of the induction of a step on the vector before it.
 abbrev pub step_weight : ℕ → List ℕ → ℕ → Step → ℕ
 step_weight e mu t s = induction_weight e s.residue s.count (degree_after e mu t) (partial_ladder_vector e mu t)
 
@@ -185,10 +185,11 @@ step_within limit e mu t d lt h lambda pl =
     let all = within_map reaches limit (partitions (degree_after e mu t + s.count))
     (within_greatest limit (map reaches (partitions (degree_after e mu t + s.count))) h) in
     let here : reaches lambda ≤ limit =
-    occurs_holds (λ x. reaches x ≤ limit) lambda (partitions (degree_after e mu t + s.count)) all
-    (each_partition (degree_after e mu t + s.count) lambda pl.partition total) in
+    at_occurs (λ x. reaches x ≤ limit) lambda (partitions (degree_after e mu t + s.count))
+    (each_partition (degree_after e mu t + s.count) lambda pl.partition total) all in
     subst (λ n. n ≤ limit) (sym (size_after e mu t d lambda lt)) here
 
+-- Where the induction of the next step is not too large, no size passes the limit after it.
 pub within_next : (limit e : ℕ) (mu : List ℕ) (t : ℕ) (d : Step) → t < length (steps e mu) → WithinUpTo limit e mu t →
     step_weight e mu t (get_or (steps e mu) t d) ≤ limit → WithinUpTo limit e mu (t + 1)
 within_next limit e mu t d lt so_far h = record { sizes = λ s le lambda pl. by_step s le lambda pl (le_or_same s le) }
@@ -209,22 +210,23 @@ within_next limit e mu t d lt so_far h = record { sizes = λ s le lambda pl. by_
         last
         (step_within limit e mu t d lt h lambda) pl
 
+-- The sizes after t steps, at the partitions of k and at those of all degrees.
+abbrev sizes_of : ℕ → List ℕ → ℕ → ℕ → List ℕ
+sizes_of e mu t k = map (λ lambda. size (partial_ladder_vector e mu t lambda)) (partitions k)
+
+abbrev sizes_after : ℕ → List ℕ → ℕ → List ℕ
+sizes_after e mu t = flat_map (sizes_of e mu t) (range_with_len 0 (degree mu + 1))
+
 -- Where all are within the limit the ladder vector isn't too large.
 pub weight_within : (limit e : ℕ) (mu : List ℕ) → WithinUpTo limit e mu (length (steps e mu)) →
     ladder_weight e mu ≤ limit
 unfolding ladder_weight
 weight_within limit e mu within =
-    greatest_within limit (flat_map after_step (range_with_len 0 (length (steps e mu) + 1)))
-    (all_flat (λ n. n ≤ limit) after_step (range_with_len 0 (length (steps e mu) + 1))
-    (range_all (λ t. AllByRecursion (λ n. n ≤ limit) (after_step t)) 0 (length (steps e mu) + 1)
+    greatest_within limit (flat_map (sizes_after e mu) (range_with_len 0 (length (steps e mu) + 1)))
+    (all_flat (λ n. n ≤ limit) (sizes_after e mu) (range_with_len 0 (length (steps e mu) + 1))
+    (range_all (λ t. AllByRecursion (λ n. n ≤ limit) (sizes_after e mu t)) 0 (length (steps e mu) + 1)
     (λ t _ lt. each_step t (omega arith))))
   where
-    sizes : ℕ → ℕ → List ℕ
-    sizes t k = map (λ lambda. size (partial_ladder_vector e mu t lambda)) (partitions k)
-
-    after_step : ℕ → List ℕ
-    after_step t = flat_map (sizes t) (range_with_len 0 (degree mu + 1))
-
     at_partition : (t : ℕ) → t ≤ length (steps e mu) → (lambda : List ℕ) → IsPartition lambda →
         size (partial_ladder_vector e mu t lambda) ≤ limit
     at_partition t le lambda pl = by_value (partial_ladder_vector e mu t lambda) refl
@@ -236,18 +238,13 @@ weight_within limit e mu within =
             partial_degree e mu t lambda (λ z. let no : [] ≡ c ∷ p = sym z ∙ is in cc) in
             subst (λ q. size q ≤ limit) is (within.sizes t le lambda record { partition = pl; total = total })
 
-    each_step : (t : ℕ) → t ≤ length (steps e mu) → AllByRecursion (λ n. n ≤ limit) (after_step t)
+    each_step : (t : ℕ) → t ≤ length (steps e mu) → AllByRecursion (λ n. n ≤ limit) (sizes_after e mu t)
     each_step t le =
-        all_flat (λ n. n ≤ limit) (sizes t) (range_with_len 0 (degree mu + 1))
-        (range_all (λ k. AllByRecursion (λ n. n ≤ limit) (sizes t k)) 0 (degree mu + 1) (λ k _ _.
+        all_flat (λ n. n ≤ limit) (sizes_of e mu t) (range_with_len 0 (degree mu + 1))
+        (range_all (λ k. AllByRecursion (λ n. n ≤ limit) (sizes_of e mu t k)) 0 (degree mu + 1) (λ k _ _.
         map_within (λ lambda. size (partial_ladder_vector e mu t lambda)) limit (partitions k)
-        (all_mono (IsPartitionOf k) (λ lambda. size (partial_ladder_vector e mu t lambda) ≤ limit) (partitions k)
+        (all_weaken (IsPartitionOf k) (λ lambda. size (partial_ladder_vector e mu t lambda) ≤ limit) (partitions k)
         (λ lambda pl. at_partition t le lambda pl.partition) (all_partitions k))))
-
-flat_all : {X Y : Type 0} (P : Y → Type 0) (f : X → List Y) (xs : List X) → AllByRecursion P (flat_map f xs) →
-    AllByRecursion (λ x. AllByRecursion P (f x)) xs
-flat_all P f [] h = tt
-flat_all P f (x ∷ xs) h = (all_left P (f x) (flat_map f xs) h, flat_all P f xs (all_right P (f x) (flat_map f xs) h))
 
 degree_after_within : (e : ℕ) (mu : List ℕ) (t : ℕ) → degree_after e mu t ≤ nodes_added (steps e mu)
 degree_after_within e mu t = sum_by-take-le (λ s. s.count) (steps e mu) t
@@ -258,17 +255,11 @@ pub within_weight : (limit e : ℕ) (mu : List ℕ) → IsLabel e mu → ladder_
 unfolding ladder_weight
 within_weight limit e mu label h = record { sizes = at_step }
   where
-    sizes : ℕ → ℕ → List ℕ
-    sizes t k = map (λ lambda. size (partial_ladder_vector e mu t lambda)) (partitions k)
-
-    after_step : ℕ → List ℕ
-    after_step t = flat_map (sizes t) (range_with_len 0 (degree mu + 1))
-
-    all_steps : AllByRecursion (λ t. AllByRecursion (λ n. n ≤ limit) (after_step t))
+    all_steps : AllByRecursion (λ t. AllByRecursion (λ n. n ≤ limit) (sizes_after e mu t))
         (range_with_len 0 (length (steps e mu) + 1))
     all_steps =
-        flat_all (λ n. n ≤ limit) after_step (range_with_len 0 (length (steps e mu) + 1))
-        (within_greatest limit (flat_map after_step (range_with_len 0 (length (steps e mu) + 1))) h)
+        flat_all (λ n. n ≤ limit) (sizes_after e mu) (range_with_len 0 (length (steps e mu) + 1))
+        (within_greatest limit (flat_map (sizes_after e mu) (range_with_len 0 (length (steps e mu) + 1))) h)
 
     whole : nodes_added (steps e mu) ≡ degree mu
     whole = ap nodes_added (sym (take_all (length (steps e mu)) (steps e mu) (omega arith)))
@@ -277,19 +268,18 @@ within_weight limit e mu label h = record { sizes = at_step }
     at_step : (t : ℕ) → t ≤ length (steps e mu) → (lambda : List ℕ) → IsPartitionOf (degree_after e mu t) lambda →
         size (partial_ladder_vector e mu t lambda) ≤ limit
     at_step t le lambda pl =
-        let here : AllByRecursion (λ n. n ≤ limit) (after_step t) =
-        range_at (λ t. AllByRecursion (λ n. n ≤ limit) (after_step t)) 0 (length (steps e mu) + 1) all_steps t
+        let here : AllByRecursion (λ n. n ≤ limit) (sizes_after e mu t) =
+        range_at (λ t. AllByRecursion (λ n. n ≤ limit) (sizes_after e mu t)) 0 (length (steps e mu) + 1) all_steps t
         (omega arith) (omega arith) in
-        let degrees = flat_all (λ n. n ≤ limit) (sizes t) (range_with_len 0 (degree mu + 1)) here in
+        let degrees = flat_all (λ n. n ≤ limit) (sizes_of e mu t) (range_with_len 0 (degree mu + 1)) here in
         let few : degree_after e mu t ≤ degree mu = omega (arith, degree_after_within e mu t, whole) in
-        let of_degree : AllByRecursion (λ n. n ≤ limit) (sizes t (degree_after e mu t)) =
-        range_at (λ k. AllByRecursion (λ n. n ≤ limit) (sizes t k)) 0 (degree mu + 1) degrees (degree_after e mu t)
+        let of_degree : AllByRecursion (λ n. n ≤ limit) (sizes_of e mu t (degree_after e mu t)) =
+        range_at (λ k. AllByRecursion (λ n. n ≤ limit) (sizes_of e mu t k)) 0 (degree mu + 1) degrees (degree_after e mu t)
         (omega arith) (omega arith) in
-        occurs_holds (λ lambda. size (partial_ladder_vector e mu t lambda) ≤ limit) lambda
-        (partitions (degree_after e mu t))
+        at_occurs (λ lambda. size (partial_ladder_vector e mu t lambda) ≤ limit) lambda
+        (partitions (degree_after e mu t)) (each_partition (degree_after e mu t) lambda pl.partition pl.total)
         (within_map (λ lambda. size (partial_ladder_vector e mu t lambda)) limit
         (partitions (degree_after e mu t)) of_degree)
-        (each_partition (degree_after e mu t) lambda pl.partition pl.total)
 
 -- Where the induction of one step is too large, so is the ladder vector.
 pub weight_past : (limit e : ℕ) (mu : List ℕ) (t : ℕ) (d : Step) → IsLabel e mu → t < length (steps e mu) →
@@ -307,7 +297,7 @@ weight_past limit e mu t d label lt past = by_order (le_or_lt (ladder_weight e m
         let within = within_weight limit e mu label h in
         greatest_within limit (map reaches (partitions (degree_after e mu t + s.count)))
         (map_within reaches limit (partitions (degree_after e mu t + s.count))
-        (all_mono (IsPartitionOf (degree_after e mu t + s.count)) (λ x. reaches x ≤ limit)
+        (all_weaken (IsPartitionOf (degree_after e mu t + s.count)) (λ x. reaches x ≤ limit)
         (partitions (degree_after e mu t + s.count))
         (λ x px. subst (λ n. n ≤ limit) (size_after e mu t d x lt)
         (within.sizes (t + 1)

@@ -35,6 +35,7 @@ none_named (f ∷ fs) others is = by_test f.1 (none_named fs others.1) is
     by_test true rest is = others.0 (same_Some f.0 Memory is)
     by_test false rest is = rest is
 
+-- Want of memory is no fault of a line.
 pub never_memory : (places : List Place) (ws : List (List ℕ)) → first_fault places ws ≡ Some Memory → ⊥
 unfolding first_fault
 never_memory places ws is =
@@ -44,6 +45,7 @@ never_memory places ws is =
 
 -- ---- behind the first word
 
+-- Words without a fault say their command.
 pub answered : (verb : Verb) (ws : List (List ℕ)) (command : Command) → None ≡ first_fault (places_of verb) ws →
     command ≡ fitting_command verb ws →
     Ok command ≡ or_fault (command_of verb ws) (first_fault (places_of verb) ws)
@@ -51,6 +53,7 @@ answered verb ws command none is =
     ap Ok (is ∙ exact verb ws (faultless (places_of verb) ws (sym none)))
     ∙ ap (or_fault (command_of verb ws)) none
 
+-- Only a quotient wants memory.
 pub wanted : (verb : Verb) (ws : List (List ℕ)) → None ≡ first_fault (places_of verb) ws → verb ≡ Combine →
     WantsMemory (or_fault (command_of verb ws) (first_fault (places_of verb) ws))
 unfolding command_of
@@ -77,6 +80,7 @@ said_command (first ∷ rest) =
 
 -- ---- the length and the bytes
 
+-- A line past the limit is refused for that.
 pub long_line : (line : List ℕ) → LINE_LIMIT < length line → Err LongLine ≡ reading line
 unfolding reading
 long_line line long =
@@ -88,11 +92,13 @@ unfolding reading
 short_line line short =
     cond-false (nat_lt LINE_LIMIT (length line)) _ _ (le-ltb LINE_LIMIT (length line) short)
 
+-- A line within the limit is refused for a byte that is not allowed.
 pub bad_byte : (line : List ℕ) → length line ≤ LINE_LIMIT → list_all is_allowed line ≡ false →
     Err BadByte ≡ reading line
 bad_byte line short other =
     sym (short_line line short ∙ cond-true (not (list_all is_allowed line)) _ _ (ap not other))
 
+-- Any other line says what its words say.
 pub plain_line : (line : List ℕ) → length line ≤ LINE_LIMIT → list_all is_allowed line ≡ true →
     said (words line) ≡ reading line
 plain_line line short all =
@@ -100,6 +106,7 @@ plain_line line short all =
 
 -- ---- what was read
 
+-- What the words say is what the line says, memory apart.
 pub read_command : (line : List ℕ) (r : Result Command LineFault) → (r ≢ Err Memory → r ≡ said (words line)) →
     IfOk r IsCommand
 read_command line (Err fault) reads = tt

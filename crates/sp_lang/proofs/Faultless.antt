@@ -37,6 +37,7 @@ none_there (f ∷ fs) h = by_test f.1 refl (none_there fs) h
     by_test true is rest h = absurd (cc)
     by_test false is rest h = (is, rest h)
 
+-- Where no fault is found, no word is wrong.
 pub faultless : (places : List Place) (ws : List (List ℕ)) → first_fault places ws ≡ None → Faultless places ws
 unfolding first_fault
 faultless places ws h =

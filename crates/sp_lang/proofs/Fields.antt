@@ -40,6 +40,7 @@ module _ (places : List Place) (ws : List (List ℕ)) (f : Faultless places ws) 
       let mu = label_at places ws f 1 at_p in
       record { e_range = e_at places ws f 0 at_e; given = mu.0; regular = mu.1 }
 
+-- Words without a fault are read exactly.
 pub exact : (verb : Verb) (ws : List (List ℕ)) → Faultless (places_of verb) ws →
     fitting_command verb ws ≡ command_of verb ws
 unfolding command_of
@@ -76,6 +77,7 @@ exact Schaper ws f = ap₂ command.Schaper (exact_e _ ws f refl) (exact_degree _
 exact Dim ws f = ap command.Dim (exact_partition _ ws f 0 refl)
 exact Dims ws f = ap₂ command.Dims (exact_e _ ws f refl) (exact_degree _ ws f 1 refl)
 
+-- The fields of a command that was read are as its places ask.
 pub fields : (verb : Verb) (ws : List (List ℕ)) → Faultless (places_of verb) ws → IsCommand (command_of verb ws)
 unfolding command_of
 fields Partitions ws f = degree_at _ ws f 0 refl

@@ -18,13 +18,9 @@ use Rattle.sp_lang.specs.declared.fault.LineFault.{LineFault}
 use Rattle.sp_lang.specs.declared.fault.LineFault.TheVariants.{WordCount}
 use Rattle.sp_lang.specs.declared.test.Test.{Test}
 use Rattle.sp_lang.specs.declared.verb.Place.{Place}
-use Rattle.sp_lang.specs.declared.verb.Place.TheVariants.{E, Residue, Count, Degree, Partition, Peer, Grown, Label}
-use Rattle.sp_lang.specs.declared.verb.Place.TheVariants.{Quotient, Weight, Name}
+use Rattle.sp_lang.specs.declared.verb.Place.TheVariants.{E, Residue, Partition, Peer, Grown, Label}
 use Rattle.sp_lang.specs.declared.verb.Verb.{Verb}
-use Rattle.sp_lang.specs.declared.verb.Verb.TheVariants.{Partitions, Regular, Conjugate, Dominates, Diagram, Hooks}
-use Rattle.sp_lang.specs.declared.verb.Verb.TheVariants.{Content, Core, Combine, Abacus, Good, Path, Mullineux}
-use Rattle.sp_lang.specs.declared.verb.Verb.TheVariants.{Induce, Ladders, Ladder, Row, Crystal, Decomposition}
-use Rattle.sp_lang.specs.declared.verb.Verb.TheVariants.{Block, Painter, Jantzen, Schaper, Dim, Dims}
+use Rattle.sp_lang.specs.declared.verb.Verb.TheVariants.{Conjugate, Dim, Dominates, Hooks, Painter, Partitions}
 use Rattle.sp_lang.proofs.Right.{byte-small, IsGiven-fits, e_of, given_of}
 
 -- ---- counts that stop at 255
@@ -49,17 +45,8 @@ past_same m (Some p) = by_order (degree p) (cases_lt DEGREE_LIMIT (degree p + m)
 
 limit_same : (m : ℕ) (place : Place) (word : List ℕ) →
     passes_limit (min m 255) place word ≡ passes_limit m place word
-limit_same m E word = refl
-limit_same m Residue word = refl
-limit_same m Count word = refl
-limit_same m Degree word = refl
-limit_same m Partition word = refl
-limit_same m Peer word = refl
 limit_same m Grown word = past_same m (partition_of word)
-limit_same m Label word = refl
-limit_same m Quotient word = refl
-limit_same m Weight word = refl
-limit_same m Name word = refl
+limit_same m other word = refl
 
 -- ---- labels that fit
 
@@ -72,18 +59,9 @@ regular_same e (Some p) within =
 
 label_same : (m e : ℕ) → 2 ≤ e → (place : Place) (word : List ℕ) → passes_limit m place word ≡ false →
     has_irregular e place word ≡ is_irregular e place word
-label_same m e low E word within = refl
-label_same m e low Residue word within = refl
-label_same m e low Count word within = refl
-label_same m e low Degree word within = refl
-label_same m e low Partition word within = refl
-label_same m e low Peer word within = refl
-label_same m e low Grown word within = refl
 label_same m e low Label word within =
     ap (λ t. t && is_fitting_irregular e word) (le-leb 2 e low) ∙ regular_same e (partition_of word) within
-label_same m e low Quotient word within = refl
-label_same m e low Weight word within = refl
-label_same m e low Name word within = refl
+label_same m e low other word within = refl
 
 labels_same : (m e : ℕ) → 2 ≤ e → (places : List Place) (ws : List (List ℕ)) →
     any_word (passes_limit m) places ws ≡ false →
@@ -117,62 +95,29 @@ never t absent right (p ∷ ps) (w ∷ ws) h =
 peer_right : (n : ℕ) (place : Place) (word : List ℕ) → is_unpeered place ≡ true →
     is_of_other_degree n place word ≡ false
 unfolding is_unpeered
-peer_right n E word h = refl
-peer_right n Residue word h = refl
-peer_right n Count word h = refl
-peer_right n Degree word h = refl
-peer_right n Partition word h = refl
 peer_right n Peer word h = absurd (cc)
-peer_right n Grown word h = refl
-peer_right n Label word h = refl
-peer_right n Quotient word h = refl
-peer_right n Weight word h = refl
-peer_right n Name word h = refl
+peer_right n other word h = refl
 
 residue_right : (e : ℕ) (place : Place) (word : List ℕ) → is_free_of_e place ≡ true →
     is_no_residue e place word ≡ false
 unfolding is_free_of_e
-residue_right e E word h = refl
 residue_right e Residue word h = absurd (cc)
-residue_right e Count word h = refl
-residue_right e Degree word h = refl
-residue_right e Partition word h = refl
-residue_right e Peer word h = refl
-residue_right e Grown word h = refl
 residue_right e Label word h = absurd (cc)
-residue_right e Quotient word h = refl
-residue_right e Weight word h = refl
-residue_right e Name word h = refl
+residue_right e other word h = refl
 
 irregular_right : (e : ℕ) (place : Place) (word : List ℕ) → is_free_of_e place ≡ true →
     is_irregular e place word ≡ false
 unfolding is_free_of_e
-irregular_right e E word h = refl
 irregular_right e Residue word h = absurd (cc)
-irregular_right e Count word h = refl
-irregular_right e Degree word h = refl
-irregular_right e Partition word h = refl
-irregular_right e Peer word h = refl
-irregular_right e Grown word h = refl
 irregular_right e Label word h = absurd (cc)
-irregular_right e Quotient word h = refl
-irregular_right e Weight word h = refl
-irregular_right e Name word h = refl
+irregular_right e other word h = refl
 
 has_irregular_right : (e : ℕ) (place : Place) (word : List ℕ) → is_free_of_e place ≡ true →
     has_irregular e place word ≡ false
 unfolding is_free_of_e
-has_irregular_right e E word h = refl
 has_irregular_right e Residue word h = absurd (cc)
-has_irregular_right e Count word h = refl
-has_irregular_right e Degree word h = refl
-has_irregular_right e Partition word h = refl
-has_irregular_right e Peer word h = refl
-has_irregular_right e Grown word h = refl
 has_irregular_right e Label word h = absurd (cc)
-has_irregular_right e Quotient word h = refl
-has_irregular_right e Weight word h = refl
-has_irregular_right e Name word h = refl
+has_irregular_right e other word h = refl
 
 -- ---- the last three tests
 
@@ -186,30 +131,12 @@ Kind places =
 kind : (verb : Verb) → Kind (places_of verb)
 unfolding is_unpeered is_free_of_e
 kind Partitions = inr (inr (refl, refl))
-kind Regular = inl (refl, refl)
+kind Painter = inr (inr (refl, refl))
 kind Conjugate = inr (inl (refl, refl))
 kind Dominates = inr (inl (refl, refl))
-kind Diagram = inl (refl, refl)
 kind Hooks = inr (inl (refl, refl))
-kind Content = inl (refl, refl)
-kind Core = inl (refl, refl)
-kind Combine = inl (refl, refl)
-kind Abacus = inl (refl, refl)
-kind Good = inl (refl, refl)
-kind Path = inl (refl, refl)
-kind Mullineux = inl (refl, refl)
-kind Induce = inl (refl, refl)
-kind Ladders = inl (refl, refl)
-kind Ladder = inl (refl, refl)
-kind Row = inl (refl, refl)
-kind Crystal = inl (refl, refl)
-kind Decomposition = inl (refl, refl)
-kind Block = inl (refl, refl)
-kind Painter = inr (inr (refl, refl))
-kind Jantzen = inl (refl, refl)
-kind Schaper = inl (refl, refl)
 kind Dim = inr (inl (refl, refl))
-kind Dims = inl (refl, refl)
+kind other = inl (refl, refl)
 
 -- No word is wrong by the first four tests.
 record Passed (places : List Place) (ws : List (List ℕ)) : Type 0 where
@@ -297,6 +224,7 @@ failed_count : (b : Bool) (y : Option (LineFault × Bool)) → b ≡ true →
 failed_count true y h = refl
 failed_count false y h = absurd (cc)
 
+-- Another number of words is the first fault.
 pub other_count : (places : List Place) (ws : List (List ℕ)) → length ws ≢ length places →
     Some WordCount ≡ first_fault places ws
 unfolding first_fault
@@ -304,6 +232,7 @@ other_count places ws other =
     failed_count (not (eqb (length ws) (length places))) _
     (ap not (ne_eqb (length ws) (length places) other))
 
+-- With as many words as places, the tests find the first fault.
 pub same_count : (verb : Verb) (ws : List (List ℕ)) → length ws ≡ length (places_of verb) →
     first_failing (places_of verb) ws ≡ first_fault (places_of verb) ws
 unfolding first_fault

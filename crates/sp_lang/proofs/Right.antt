@@ -54,12 +54,14 @@ fits word more few =
 pub IsGiven-fits : (word : List ℕ) → IsGiven (partition word) → fitting word ≡ partition word
 IsGiven-fits word is = fits word 0 (let few = is.small in omega (arith, few))
 
+-- A number that fits a byte is read exactly.
 pub byte-small : (word : List ℕ) → number word ≤ 255 → byte word ≡ number word
 byte-small word few = least (number word) few
   where
     least : (n : ℕ) → n ≤ 255 → min n 255 ≡ n
     least n few = omega arith
 
+-- A weight fits 64 bits.
 pub weight-small : (word : List ℕ) → weight word < 2 ^ 64
 weight-small word = below (number word)
   where
@@ -84,6 +86,7 @@ all_fit (word ∷ words) some past =
 
 -- ---- the word at a place
 
+-- A faultless word in the place of e says an e.
 pub e_of : (places : List Place) (ws : List (List ℕ)) (k : ℕ) → length ws ≡ length places →
     any_word is_no_number places ws ≡ false → any_word is_no_e places ws ≡ false → slice_get places k ≡ Some E →
     IsE (number (word_at ws k))
@@ -94,6 +97,7 @@ e_of places ws k count numbers range at =
     (right_at is_no_number places ws E k count numbers at) (right_at is_no_e places ws E k count range at))) in
     record { low = leb-true 2 e parts.0; high = leb-true e 64 parts.1 }
 
+-- A faultless word in the place of a partition says one that is taken.
 pub given_of : (places : List Place) (ws : List (List ℕ)) (k : ℕ) → length ws ≡ length places →
     any_word is_no_partition places ws ≡ false →
     any_word (passes_limit (number (word_at ws 2))) places ws ≡ false → slice_get places k ≡ Some Partition →

@@ -68,16 +68,19 @@ words-front b bs is =
     one_more : (k : ℕ) → 1 + k ≡ suc k
     one_more k = omega arith
 
+-- A blank in front changes no word.
 pub words-behind_blank : (text : List ℕ) (b : ℕ) (bs : List ℕ) → text ≡ b ∷ bs → is_blank b ≡ true →
     words bs ≡ words text
 words-behind_blank text b bs is blank = sym (words-blank b bs blank) ∙ ap words (sym is)
 
+-- What stands before the first blank is the first word.
 pub words-first : (text : List ℕ) (b : ℕ) (bs : List ℕ) → text ≡ b ∷ bs → is_blank b ≡ false →
     words text ≡ (let k = position_or_len is_blank text in take k text ∷ words (drop k text))
 words-first text b bs is other =
     subst (λ t. words t ≡ (let k = position_or_len is_blank t in take k t ∷ words (drop k t))) (sym is)
     (words-front b bs other)
 
+-- The empty text has no word.
 pub words-none : (text : List ℕ) → length text ≡ 0 → words text ≡ []
 unfolding words
 words-none [] e = refl
@@ -90,6 +93,7 @@ prefix_len-le q (x ∷ xs) =
     elim (q x) as (λ t. cond t (1 + prefix_len q xs) 0 ≤ length (x ∷ xs))
     [ true ↦ omega (arith, more) | false ↦ omega arith ]
 
+-- The place is within the list.
 pub position_or_len-le : (p : ℕ → Bool) (xs : List ℕ) → position_or_len p xs ≤ length xs
 position_or_len-le p xs = prefix_len-le (λ x. not (p x)) xs
 

@@ -13,7 +13,7 @@ use Rattle.sp_lang.specs.declared.fault.LineFault.TheVariants.{WordCount, NotNum
 use Rattle.sp_lang.specs.declared.fault.LineFault.TheVariants.{NotRegular, BadResidue, DegreesDiffer}
 use Rattle.sp_lang.specs.declared.verb.Place.{Place}
 use Rattle.sp_lang.specs.declared.verb.Place.TheVariants.{E, Residue, Count, Degree, Partition, Peer, Grown, Label}
-use Rattle.sp_lang.specs.declared.verb.Place.TheVariants.{Quotient, Weight, Name}
+use Rattle.sp_lang.specs.declared.verb.Place.TheVariants.{Quotient, Weight}
 
 -- Whether something was read, and passes the test.
 abbrev pub says : {A : Type 0} → (A → Bool) → Option A → Bool
@@ -34,12 +34,7 @@ is_no_number Residue word = is_none (number_of word)
 is_no_number Count word = is_none (number_of word)
 is_no_number Degree word = is_none (number_of word)
 is_no_number Weight word = is_none (number_of word)
-is_no_number Partition word = false
-is_no_number Peer word = false
-is_no_number Grown word = false
-is_no_number Label word = false
-is_no_number Quotient word = false
-is_no_number Name word = false
+is_no_number other word = false
 
 abbrev pub is_no_partition : Place → List ℕ → Bool
 is_no_partition Partition word = is_none (partition_of word)
@@ -47,12 +42,7 @@ is_no_partition Peer word = is_none (partition_of word)
 is_no_partition Grown word = is_none (partition_of word)
 is_no_partition Label word = is_none (partition_of word)
 is_no_partition Quotient word = list_any (λ piece. is_none (partition_of piece)) (pieces word)
-is_no_partition E word = false
-is_no_partition Residue word = false
-is_no_partition Count word = false
-is_no_partition Degree word = false
-is_no_partition Weight word = false
-is_no_partition Name word = false
+is_no_partition other word = false
 
 abbrev pub is_no_e : Place → List ℕ → Bool
 is_no_e E word = says (λ e. not (is_e e)) (number_of word)
@@ -66,11 +56,7 @@ passes_limit more Peer word = is_past 0 word
 passes_limit more Label word = is_past 0 word
 passes_limit more Grown word = is_past more word
 passes_limit more Quotient word = list_any (is_past 0) (pieces word)
-passes_limit more E word = false
-passes_limit more Residue word = false
-passes_limit more Count word = false
-passes_limit more Weight word = false
-passes_limit more Name word = false
+passes_limit more other word = false
 
 abbrev pub is_of_other_degree : ℕ → Place → List ℕ → Bool
 is_of_other_degree n Peer word = says (λ p. not (degree p == n)) (partition_of word)

@@ -1,6 +1,8 @@
 //! The commands, and how a line says one.
 #![tactic(auto)]
 
+ghost use Rattle.std.specs.Prelude.{◌≡◌};
+
 mod command;
 mod fault;
 mod name;
@@ -19,3 +21,9 @@ pub use read::read_command;
 
 /// The greatest number of bytes of a line.
 pub const LINE_LIMIT: usize = 4096;
+
+/// The limit on a line is 4 KiB.
+pub fn line_limit_law()
+    ensures { LINE_LIMIT ≡ 4096 }
+{
+}

@@ -20,7 +20,7 @@ pub(crate) fn number(word: &[u8]) -> Option<u8>
     ensures { result ≡ option_map (λ n. min n 255) (number_of word.now) }
 {
     if is_number(word) {
-        Some(value(word))
+        Some(value(word).min(255) as u8)
     } else {
         None
     }
@@ -42,18 +42,6 @@ fn are_digits(word: &[u8]) -> bool
     word.iter().all(|byte| byte.is_ascii_digit())
 }
 
-// What the digits count, or 255 where that is greater.
-fn value(digits: &[u8]) -> u8
-    requires { IsTrue (number_word digits.now) }
-    ensures { result ≡ min (digits_value 10 digits.now) 255 }
-{
-    let mut value = 0u8;
-    for digit in digits {
-        value = value.saturating_mul(10).saturating_add(*digit - b'0');
-    }
-    value
-}
-
 /// The number that a word says, or 255 where it is greater, or 0 where the word says none.
 pub(crate) fn byte(word: &[u8]) -> u8
     ensures { result ≡ byte_of word.now }
@@ -65,11 +53,11 @@ pub(crate) fn byte(word: &[u8]) -> u8
 pub(crate) fn weight(word: &[u8]) -> u64
     ensures { result ≡ weight_of word.now }
 {
-    if is_number(word) { long_value(word) } else { 0 }
+    if is_number(word) { value(word) } else { 0 }
 }
 
 // What the digits count, or the greatest u64 where that is greater.
-fn long_value(digits: &[u8]) -> u64
+fn value(digits: &[u8]) -> u64
     requires { IsTrue (number_word digits.now) }
     ensures { result ≡ min (digits_value 10 digits.now) (2 ^ 64 - 1) }
 {

@@ -1,35 +1,32 @@
 -- What a builder asks for.
-use Rattle.std.proofs.Common.{◌≡◌, ◌≢◌, ℕ, ◌+◌, ◌<◌, ◌≤◌, true, false, cond, List, [], length, get_or, sym, ◌∙◌}
-use Rattle.std.proofs.Common.{ap, subst, arith, Option, Some, None, IfSome, MatchOption, lt-ltb, le-ltb}
-use Rattle.std.specs.Option.{option_map}
+use Rattle.std.proofs.Common.{◌≡◌, ◌≢◌, ℕ, ◌+◌, ◌<◌, ◌≤◌, Bool, true, false, List, [], length, get_or, sym, ◌∙◌}
+use Rattle.std.proofs.Common.{ap, subst, arith, refl, Some, None, lt-ltb, le-ltb}
 use Rattle.sp_defs.specs.Partition.{degree, regulars}
 use Rattle.sp_defs.specs.Laurent.{lift, size}
-use Rattle.sp_defs.specs.Power.{FockVector, vector_of, entries}
+use Rattle.sp_defs.specs.Power.{Vector, vector_of, entries}
 use Rattle.sp_defs.specs.Row.{outcome, TooLarge, earlier}
 use Rattle.sp_defs.specs.Statements.{SameContent}
 use Rattle.sp_fock_law.specs.Tally.{TallyValue}
 use Rattle.sp_fock_law.proofs.Vectors.{vector_of-entries}
-use Rattle.sp_outcome_law.specs.Asking.{share_at, next_rank, left, is_past, asked, share_past}
+use Rattle.sp_outcome_law.specs.Asking.{share_at, next_rank, left, is_past, share_past, asked}
+use Rattle.sp_outcome_law.proofs.Asked.{asked_open}
 use Rattle.sp_outcome_law.proofs.Decided.{decided, too_large_of}
 use Rattle.sp_outcome_law.proofs.Finding.{next_is, no_next, next_share_at}
 use Rattle.sp_outcome_law.proofs.Next.{IsNext, is_next}
 use Rattle.sp_outcome_law.proofs.Ranks.{earlier_at}
 use Rattle.sp_core.specs.declared.piece.Key.{Key}
 use Rattle.sp_llt.specs.declared.share.Share.{Share}
+use Rattle.sp_llt.specs.declared.builder.Unfinished.{Unfinished}
 use Rattle.sp_llt.specs.Place.{IsPlace, place, IsProgress, progress, label, labels}
 use Rattle.sp_llt.specs.Search.{lift_at, NoLift, IsLastLift, IsLargeLift}
 use Rattle.sp_llt.specs.Shares.{given_shares}
-use Rattle.sp_llt.specs.Reached.{IsNext as IsNextShare, IsWithin, IsOpen, tally_at}
+use Rattle.sp_llt.specs.Reached.{IsWithin, IsOpen, tally_at}
 use Rattle.sp_llt.proofs.Labels.{LabelFacts, label_facts, by_degree}
 
-pub asked_past : (e limit : ℕ) (mu : List ℕ) (t : ℕ) → is_past e limit mu t ≡ true → asked e limit mu t ≡ None
-unfolding asked
-asked_past e limit mu t h = ap (λ b. cond b None (next_rank e mu t)) h
-
-pub asked_open : (e limit : ℕ) (mu : List ℕ) (t : ℕ) → is_past e limit mu t ≡ false →
-    asked e limit mu t ≡ next_rank e mu t
-unfolding asked
-asked_open e limit mu t h = ap (λ b. cond b None (next_rank e mu t)) h
+-- The share whose row comes next.
+pub record IsNextShare (e : ℕ) (mu : List ℕ) (t : ℕ) (next : Share) : Type 0 where
+  pub rank : next_rank e mu t ≡ Some next.rank
+  pub alpha : next.alpha ≡ (share_at e mu next.rank).1
 
 -- ---- the next rank
 
@@ -62,6 +59,16 @@ module _ (key : Key) (rank : ℕ) (p : IsPlace (place key rank)) where
       outcome key.e key.limit (label key rank) ≡ TooLarge
   past_outcome t h =
       too_large_of key.e key.limit (label key rank) (decided key.e key.limit (label key rank) f.is_label t h)
+
+  -- where the outcome is decided and isn't too large, no share is to come
+  pub none_to_come : (t : ℕ) → asked key.e key.limit (label key rank) t ≡ None →
+      outcome key.e key.limit (label key rank) ≢ TooLarge → next_rank key.e (label key rank) t ≡ None
+  none_to_come t none fits = tested (is_past key.e key.limit (label key rank) t) refl
+    where
+      tested : (b : Bool) → is_past key.e key.limit (label key rank) t ≡ b →
+          next_rank key.e (label key rank) t ≡ None
+      tested true past = absurd (fits (past_outcome t past))
+      tested false within = sym (asked_open key.e key.limit (label key rank) t within) ∙ none
 
   -- ---- the search for the next share
 
@@ -104,10 +111,10 @@ module _ (key : Key) (rank : ℕ) (p : IsPlace (place key rank)) where
 
   pub some_found : (t limit : ℕ) (s : Share) → t ≤ rank →
       IsLastLift (vector_of (entries key.degree (left key.e (label key rank) t))) (labels key) t limit s →
-      IsNextShare key.e (label key rank) t (Some s)
+      IsNextShare key.e (label key rank) t s
   some_found t limit s le h =
       let next = next_at t s.rank le h.below (λ z. h.nonzero (h.alpha ∙ z)) h.others in
-      record { rank = sym next; alpha = h.alpha ∙ sym (share_is t s.rank le h.below next) }
+      record { rank = next; alpha = h.alpha ∙ sym (share_is t s.rank le h.below next) }
 
   pub large_found : (t j : ℕ) → t ≤ rank →
       IsLargeLift (vector_of (entries key.degree (left key.e (label key rank) t))) (labels key) t key.limit j →
@@ -137,66 +144,39 @@ unfolding share_past
 some_undecided key mu t j h n le =
     h ∙ ap (share_past key.e key.limit mu) n ∙ le-ltb key.limit (size (share_at key.e mu j).1) le
 
--- ---- what is answered
-
-module _ (key : Key) (rank t : ℕ) (p : IsPlace (place key rank)) where
-  below : (o : Option ℕ) → o ≡ next_rank key.e (label key rank) t → IfSome o (NextFacts key rank t)
-  below None e = tt
-  below (Some j) e = next_facts key rank p t j (sym e)
-
-  pub open_below : (tally : TallyValue) (given : List Share) (next : Option Share) →
-      IsOpen key (label key rank) t tally given next → IfSome (option_map (λ s. s.rank) next) (NextFacts key rank t)
-  open_below tally given next is = below (option_map (λ s. s.rank) next) is.asked.rank
-
-pub open_asks : (key : Key) (mu : List ℕ) (t : ℕ) (tally : TallyValue) (given : List Share) (next : Option Share) →
-    IsOpen key mu t tally given next → option_map (λ s. s.rank) next ≡ asked key.e key.limit mu t
-open_asks key mu t tally given next is = is.asked.rank ∙ sym (asked_open key.e key.limit mu t is.undecided)
-
-pub mono : {X : Type 0} (P Q : X → Type 0) (o : Option X) → ((x : X) → P x → Q x) → IfSome o P → IfSome o Q
-mono P Q None h i = tt
-mono P Q (Some x) h i = h x i
-
 -- ---- what the search makes of a builder
 
--- what the search in a vector has found
-abbrev pub Found : FockVector → List (List ℕ) → ℕ → ℕ → Option Share → Type 0
-Found v rs limit t next =
-    MatchOption next (NoLift (vector_of v.entries) rs 0 t) (IsLastLift (vector_of v.entries) rs t limit)
+-- the vector and the list that were searched are those of the builder
+module _ (key : Key) (rank t : ℕ) (slots : TallyValue) (rs : List (List ℕ)) (p : IsProgress (progress key rank t))
+    (w : IsWithin key (label key rank) t) (is : slots ≡ tally_at key (label key rank) t) (same : rs ≡ labels key) where
+  abbrev read : (Vector → List (List ℕ) → Type 0) → Type 0
+  read P = P (vector_of slots.vector.entries) rs
 
-pub open_found : (key : Key) (rank t : ℕ) (tally : TallyValue) (given : List Share) (next : Option Share) →
-    IsProgress (progress key rank t) → IsWithin key (label key rank) t → tally ≡ tally_at key (label key rank) t →
-    given ≡ given_shares key.e (label key rank) t → Found tally.vector (labels key) key.limit t next →
-    IsOpen key (label key rank) t tally given next
-open_found key rank t tally given next p w is shares found =
-    by_next next (subst (λ (s : TallyValue). Found s.vector (labels key) key.limit t next) is found)
-  where
-    by_next : (next : Option Share) →
-        Found (tally_at key (label key rank) t).vector (labels key) key.limit t next →
-        IsOpen key (label key rank) t tally given next
-    by_next None h =
-        let last : next_rank key.e (label key rank) t ≡ None = none_found key rank p.place t p.reached h in
-        record {
-          undecided = none_undecided key (label key rank) t w last;
-          left = is;
-          shares = shares;
-          asked = record { rank = sym last; alpha = tt };
-        }
-    by_next (Some s) h =
-        let n : IsNextShare key.e (label key rank) t (Some s) = some_found key rank p.place t key.limit s p.reached h in
-        record {
-          undecided =
-              some_undecided key (label key rank) t s.rank w (sym n.rank)
-              (subst (λ q. size q ≤ key.limit) n.alpha h.fits);
-          left = is;
-          shares = shares;
-          asked = n;
-        }
+  here : (P : Vector → List (List ℕ) → Type 0) → read P →
+      P (vector_of (entries key.degree (left key.e (label key rank) t))) (labels key)
+  here P h =
+      subst (P (vector_of (entries key.degree (left key.e (label key rank) t)))) same
+      (subst (λ (s : TallyValue). P (vector_of s.vector.entries) rs) is h)
 
-pub past_found : (key : Key) (rank t : ℕ) (tally : TallyValue) → IsProgress (progress key rank t) →
-    IsWithin key (label key rank) t → tally ≡ tally_at key (label key rank) t →
-    (j : ℕ) × IsLargeLift (vector_of tally.vector.entries) (labels key) t key.limit j →
-    is_past key.e key.limit (label key rank) t ≡ true
-past_found key rank t tally p w is (j, large) =
-    w
-    ∙ large_found key rank p.place t j p.reached
-    (subst (λ (s : TallyValue). IsLargeLift (vector_of s.vector.entries) (labels key) t key.limit j) is large)
+  pub none_next : NoLift (vector_of slots.vector.entries) rs 0 t → next_rank key.e (label key rank) t ≡ None
+  none_next h = none_found key rank p.place t p.reached (here (λ v xs. NoLift v xs 0 t) h)
+
+  pub open_found : (kept : Unfinished) → kept.slots ≡ slots → kept.shares.items ≡ given_shares key.e (label key rank) t →
+      IsLastLift (vector_of slots.vector.entries) rs t key.limit kept.next → IsOpen key (label key rank) t kept
+  open_found kept own shares h = record {
+    undecided =
+        some_undecided key (label key rank) t kept.next.rank w n.rank (subst (λ q. size q ≤ key.limit) n.alpha h.fits);
+    left = own ∙ is;
+    shares = shares;
+    rank = n.rank;
+    alpha = n.alpha;
+  }
+    where
+      n : IsNextShare key.e (label key rank) t kept.next
+      n = some_found key rank p.place t key.limit kept.next p.reached
+          (here (λ v xs. IsLastLift v xs t key.limit kept.next) h)
+
+  pub past_found : (j : ℕ) × IsLargeLift (vector_of slots.vector.entries) rs t key.limit j →
+      is_past key.e key.limit (label key rank) t ≡ true
+  past_found (j, large) =
+      w ∙ large_found key rank p.place t j p.reached (here (λ v xs. IsLargeLift v xs t key.limit j) large)

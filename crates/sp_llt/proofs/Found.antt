@@ -1,12 +1,11 @@
 -- What a builder has found once no row is to come.
-use Rattle.std.proofs.Common.{◌≡◌, ℕ, List, map, reverse, sym, ◌∙◌, ap, Option, None, ℤ}
+use Rattle.std.proofs.Common.{◌≡◌, ℕ, List, map, reverse, sym, ◌∙◌, ap, Option, None, ℤ, false}
 use Rattle.std.specs.List.{find}
 use Rattle.std.specs.Option.{option_map}
 use Rattle.sp_defs.specs.Power.{FockVector, fock_vector}
 use Rattle.sp_defs.specs.Row.{regular_row}
 use Rattle.sp_fock_law.proofs.Vectors.{entries-alike}
-use Rattle.sp_fock_law.specs.Tally.{TallyValue}
-use Rattle.sp_outcome_law.specs.Asking.{next_rank, left, asked}
+use Rattle.sp_outcome_law.specs.Asking.{next_rank, left, is_past}
 use Rattle.sp_outcome_law.proofs.Decided.{decided_end}
 use Rattle.sp_outcome_law.proofs.Left.{left_end}
 use Rattle.sp_outcome_law.proofs.Reached.{all_passed}
@@ -15,9 +14,8 @@ use Rattle.sp_llt.specs.declared.share.Share.{Share}
 use Rattle.sp_llt.specs.Place.{IsPlace, place, label}
 use Rattle.sp_llt.specs.Shares.{given_shares, ranked_share}
 use Rattle.sp_llt.specs.Search.{is_stray_entry}
-use Rattle.sp_llt.specs.Reached.{IsOpen}
+use Rattle.sp_llt.specs.Reached.{tally_at}
 use Rattle.sp_llt.specs.Found.{IsWhole}
-use Rattle.sp_llt.proofs.Asks.{asked_open}
 use Rattle.sp_llt.proofs.Labels.{LabelFacts, label_facts}
 use Rattle.sp_llt.proofs.Strays.{stray_found}
 
@@ -42,24 +40,21 @@ module _ (key : Key) (rank : ℕ) (p : IsPlace (place key rank)) where
   unfolding given_shares
   all_given t h = ap (λ fs. reverse (map (ranked_share key.e) fs)) (sym (all_passed key.e mu t h).same_given)
 
-  pub whole : (t : ℕ) (tally : TallyValue) (given : List Share) (next : Option Share) (at : Option (List ℕ)) →
-      IsOpen key mu t tally given next → asked key.e key.limit mu t ≡ None →
-      at ≡ option_map (λ t. t.0) (find (is_stray_entry mu) (reverse tally.vector.entries)) →
-      IsWhole key mu tally.vector given at
-  whole t tally given next at is none found = record {
-    fits = decided_end key.e key.limit mu t last ∙ is.undecided;
-    row = row;
-    shares = is.shares ∙ all_given t last;
+  pub whole : (t : ℕ) (row : FockVector) (given : List Share) (at : Option (List ℕ)) →
+      is_past key.e key.limit mu t ≡ false → next_rank key.e mu t ≡ None → row ≡ (tally_at key mu t).vector →
+      given ≡ given_shares key.e mu t →
+      at ≡ option_map (λ t. t.0) (find (is_stray_entry mu) (reverse row.entries)) → IsWhole key mu row given at
+  whole t row given at undecided last is shares found = record {
+    fits = decided_end key.e key.limit mu t last ∙ undecided;
+    row = regular;
+    shares = shares ∙ all_given t last;
     stray = found
-        ∙ ap (λ v. option_map (λ t. t.0) (find (is_stray_entry mu) (reverse (entries_of v)))) row
+        ∙ ap (λ v. option_map (λ t. t.0) (find (is_stray_entry mu) (reverse (entries_of v)))) regular
         ∙ stray_found key.e key.degree mu f.total;
   }
     where
-      last : next_rank key.e mu t ≡ None
-      last = sym (asked_open key.e key.limit mu t is.undecided) ∙ none
-
       entries_of : FockVector → List (List ℕ × List (ℤ × ℤ))
       entries_of v = v.entries
 
-      row : tally.vector ≡ fock_vector key.degree (regular_row key.e mu)
-      row = ap (λ (s : TallyValue). s.vector) is.left ∙ row_left t last
+      regular : row ≡ fock_vector key.degree (regular_row key.e mu)
+      regular = is ∙ row_left t last

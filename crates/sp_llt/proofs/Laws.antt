@@ -26,7 +26,8 @@ use Rattle.sp_core.specs.declared.piece.Key.{Key}
 use Rattle.sp_llt.specs.Place.{IsPlace, place, label}
 use Rattle.sp_llt.specs.Laws.{ObeysRowLaw, ObeysShareLaw, row_powers}
 use Rattle.sp_llt.specs.Shares.{given_shares, ranked_share}
-use Rattle.sp_llt.proofs.Lists.{all_reverse, all_places}
+use Rattle.sp_lists.proofs.Elements.{all_reverse}
+use Rattle.sp_lists.proofs.Places.{all_places}
 use Rattle.sp_llt.proofs.Labels.{LabelFacts, label_facts, lower_place, by_degree}
 
 module _ (key : Key) (rank : ℕ) (p : IsPlace (place key rank)) where

@@ -3,6 +3,7 @@ pub mod Lists
 pub mod Positive
 pub mod Strays
 pub mod Labels
+pub mod Places
 pub mod Asks
 pub mod States
 pub mod Tallies

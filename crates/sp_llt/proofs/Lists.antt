@@ -1,34 +1,10 @@
--- Facts on lists: what holds of all elements, and the last that passes a test.
+-- The last element of a list that passes a test.
 use Rattle.std.proofs.Common.{◌≡◌, ℕ, suc, ◌<◌, Bool, true, false, cond, List, []}
 use Rattle.std.proofs.Common.{◌∷◌, ◌++◌, map, length, reverse, get_or}
 use Rattle.std.proofs.Common.{refl, sym, ◌∙◌, ap, ap₂, subst, arith, Option, Some, None}
 use Rattle.std.specs.List.{AllByRecursion, find}
 use Rattle.std.proofs.lemmas.List.{reverse-append}
 use Rattle.sp_lists.proofs.Elements.{all_append, all_left, all_right}
-
--- ---- what holds of all elements
-
-pub all_reverse : {X : Type 0} (P : X → Type 0) (xs : List X) → AllByRecursion P xs → AllByRecursion P (reverse xs)
-all_reverse P [] h = tt
-all_reverse P (x ∷ xs) (h, hs) =
-    subst (AllByRecursion P) (sym (reverse-append (x ∷ []) xs))
-    (all_append P (reverse xs) (x ∷ []) (all_reverse P xs hs) (h, tt))
-
-pub all_of_reverse : {X : Type 0} (P : X → Type 0) (xs : List X) → AllByRecursion P (reverse xs) → AllByRecursion P xs
-all_of_reverse P [] h = tt
-all_of_reverse P (x ∷ xs) h =
-    let k = subst (AllByRecursion P) (reverse-append (x ∷ []) xs) h in
-    ((all_right P (reverse xs) (x ∷ []) k).0, all_of_reverse P xs (all_left P (reverse xs) (x ∷ []) k))
-
--- what holds at each place
-pub all_places : {X : Type 0} (P : X → Type 0) (xs : List X) (d : X) →
-    ((j : ℕ) → j < length xs → P (get_or xs j d)) → AllByRecursion P xs
-all_places P [] d h = tt
-all_places P (x ∷ xs) d h = (h 0 (omega arith), all_places P xs d (λ j lt. h (suc j) (omega (arith, lt))))
-
-pub map_alike : {X Y : Type 0} (f g : X → Y) (xs : List X) → AllByRecursion (λ x. f x ≡ g x) xs → map f xs ≡ map g xs
-map_alike f g [] h = refl
-map_alike f g (x ∷ xs) (h, hs) = ap₂ (λ y ys. y ∷ ys) h (map_alike f g xs hs)
 
 -- ---- the last that passes
 

@@ -18,7 +18,8 @@ use Rattle.sp_triangle.proofs.Triangle.{keys-factors}
 use Rattle.sp_triangle.proofs.Shares.{from_keys}
 use Rattle.sp_ladder_law.proofs.LadderLaw.{ladder_law}
 use Rattle.sp_row_law.proofs.RowsLaw.{rows_law}
-use Rattle.sp_llt.proofs.Lists.{all_of_reverse, find_none}
+use Rattle.sp_lists.proofs.Elements.{reverse_all}
+use Rattle.sp_llt.proofs.Lists.{find_none}
 use Rattle.sp_llt.proofs.Positive.{test_positive, nothing}
 
 module _ (e : ℕ) (mu : List ℕ) (is : IsLabel e mu) where
@@ -72,7 +73,7 @@ module _ (e : ℕ) (mu : List ℕ) (is : IsLabel e mu) where
   }
     where
       none : AllByRecursion (λ lambda. is_stray lambda ≡ false) (partitions (degree mu))
-      none = all_of_reverse (λ lambda. is_stray lambda ≡ false) (partitions (degree mu))
+      none = reverse_all (λ lambda. is_stray lambda ≡ false) (partitions (degree mu))
           (find_none is_stray (reverse (partitions (degree mu))) h)
 
       by_zero : (lambda : List ℕ) → IsPartition lambda → lambda ≢ mu →

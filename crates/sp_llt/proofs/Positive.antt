@@ -10,7 +10,7 @@ use Rattle.sp_algebra.proofs.Coefficients.{Above, Above-lower, Canonical}
 use Rattle.sp_algebra.proofs.Canonical.{canonical-from}
 use Rattle.sp_algebra.proofs.Laws.{coefficient-plus, coefficient-negate, lift_unique, lift-low}
 use Rattle.sp_algebra.proofs.Values.{first_positive, positive_above}
-use Rattle.sp_outcome_law.proofs.Listed.{same_tests}
+use Rattle.sp_lists.proofs.Elements.{same_tests}
 
 -- ---- the lift
 

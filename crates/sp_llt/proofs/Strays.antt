@@ -11,32 +11,12 @@ use Rattle.sp_defs.specs.Laurent.{Laurent}
 use Rattle.sp_defs.specs.Power.{Vector, entries}
 use Rattle.sp_defs.specs.Row.{is_positive, stray, regular_row}
 use Rattle.sp_shapes.proofs.Order.{equal_self, same_lists}
-use Rattle.sp_outcome_law.proofs.Listed.{same_tests, no_element}
+use Rattle.sp_outcome_law.proofs.Listed.{no_element}
+use Rattle.sp_lists.proofs.Comparing.{same_equality}
 use Rattle.sp_llt.proofs.Lists.{found_first, if_passes, find_back}
 use Rattle.sp_llt.specs.Search.{is_stray_entry}
 
 -- ---- two tests of two partitions
-
-same_equality : (xs ys : List ℕ) → pointwise nat_eq xs ys ≡ is_eq (compare xs ys)
-same_equality xs ys = same_tests (pointwise nat_eq xs ys) (is_eq (compare xs ys)) one_way other_way
-  where
-    of_equal : xs ≡ ys → is_eq (compare xs ys) ≡ true
-    of_equal s = ap (λ z. is_eq (compare xs z)) (sym s) ∙ ap is_eq (equal_self xs)
-
-    one_way : pointwise nat_eq xs ys ≡ true → is_eq (compare xs ys) ≡ true
-    one_way e = of_equal (same_text xs ys (sym e))
-
-    other_way : is_eq (compare xs ys) ≡ true → pointwise nat_eq xs ys ≡ true
-    other_way e = settle (pointwise nat_eq xs ys) refl (same_lists xs ys (is_equal (compare xs ys) e))
-      where
-        is_equal : (o : Ordering) → is_eq o ≡ true → o ≡ Equal
-        is_equal Less h = absurd (cc)
-        is_equal Equal h = refl
-        is_equal Greater h = absurd (cc)
-
-        settle : (b : Bool) → pointwise nat_eq xs ys ≡ b → xs ≡ ys → b ≡ true
-        settle true h s = refl
-        settle false h s = absurd (other_text xs ys (sym h) s)
 
 pub told_other : (xs ys : List ℕ) (b : Bool) → b ≡ not (pointwise nat_eq xs ys) → b ≡ not (is_eq (compare xs ys))
 told_other xs ys b h = h ∙ ap not (same_equality xs ys)

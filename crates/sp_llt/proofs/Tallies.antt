@@ -2,6 +2,7 @@
 use Rattle.std.proofs.Common.{◌≡◌, ℕ, ◌+◌, ◌*◌, ◌<◌, ◌≤◌, Bool, true, false, ◌||◌, List}
 use Rattle.std.proofs.Common.{[], ◌∷◌, ◌++◌, map, filter, length}
 use Rattle.std.proofs.Common.{reverse, refl, sym, ◌∙◌, ap, ap₂, arith, Some, nat_lt, lt-ltb, le-ltb, ℤ}
+use Rattle.std.proofs.Common.{inl, inr, subst}
 use Rattle.std.proofs.lemmas.Int.{ints}
 use Rattle.std.proofs.lemmas.List.{reverse-append}
 use Rattle.sp_defs.specs.Partition.{degree, partitions, IsPartitionOf}
@@ -12,23 +13,28 @@ use Rattle.sp_defs.specs.Row.{earlier, regular_row, outcome}
 use Rattle.sp_algebra.proofs.Laws.{coefficient-plus, coefficient-negate, IsLaurent-negate, IsLaurent-times, plus_negate}
 use Rattle.sp_algebra.proofs.Laws.{plus_times, nought_times}
 use Rattle.sp_algebra.proofs.Coefficients.{same_laurent}
-use Rattle.sp_shapes.proofs.Listing.{all_partitions}
+use Rattle.sp_lists.proofs.Elements.{le_or_lt}
+use Rattle.sp_lists.proofs.Maps.{map-alike}
+use Rattle.sp_lists.proofs.Greatest.{within_greatest, within_map}
+use Rattle.sp_lists.proofs.Occurrence.{at_occurs}
+use Rattle.sp_shapes.proofs.Listing.{all_partitions, each_partition}
 use Rattle.sp_shapes.proofs.Order.{all_mono}
 use Rattle.sp_fock_law.specs.Tally.{TallyValue, totals, tally_of, subtracted, subtraction_weight, grown_total}
+use Rattle.sp_fock_law.specs.Tally.{total_of}
 use Rattle.sp_fock_law.proofs.Vectors.{entries-alike, vector_of-entries}
 use Rattle.sp_fock_law.proofs.Totals.{total_of-totals}
 use Rattle.sp_outcome_law.specs.Asking.{share_at, given, next_rank, left, total, is_past}
-use Rattle.sp_outcome_law.specs.Asking.{total_past, share_past, is_too_large}
+use Rattle.sp_outcome_law.specs.Asking.{total_past, given_past, share_past, is_too_large}
 use Rattle.sp_outcome_law.proofs.Reached.{given_none, step}
 use Rattle.sp_outcome_law.proofs.Left.{left_start, total_start, left_step, total_step}
 use Rattle.sp_outcome_law.proofs.Ranks.{length_shares}
 use Rattle.sp_outcome_law.proofs.Decided.{past_start, past_step, total_past_by}
+use Rattle.sp_slots.proofs.Reading.{totals-alike}
 use Rattle.sp_core.specs.declared.piece.Key.{Key}
 use Rattle.sp_llt.specs.declared.share.Share.{Share}
 use Rattle.sp_llt.specs.Place.{IsPlace, place, label}
 use Rattle.sp_llt.specs.Shares.{given_shares, ranked_share}
 use Rattle.sp_llt.specs.Reached.{tally_at, IsWithin}
-use Rattle.sp_llt.proofs.Lists.{map_alike}
 use Rattle.sp_llt.proofs.Positive.{nothing}
 use Rattle.sp_llt.proofs.Labels.{LabelFacts, label_facts}
 
@@ -56,18 +62,7 @@ negate_times a b = same_laurent (times (negate a) b) (negate (times a b)) (IsLau
 numbers_alike : (n : ℕ) (f g : List ℕ → ℕ) → ((lambda : List ℕ) → IsPartitionOf n lambda → f lambda ≡ g lambda) →
     map f (partitions n) ≡ map g (partitions n)
 numbers_alike n f g h =
-    map_alike f g (partitions n) (all_mono (IsPartitionOf n) (λ x. f x ≡ g x) (partitions n) h (all_partitions n))
-
-totals_alike : (n : ℕ) (f g : List ℕ → ℕ) → ((lambda : List ℕ) → IsPartitionOf n lambda → f lambda ≡ g lambda) →
-    totals n f ≡ totals n g
-totals_alike n f g h =
-    ap (filter (λ t. nat_lt 0 t.1))
-    (map_alike (λ x. (x, f x)) (λ x. (x, g x)) (partitions n)
-    (all_mono (IsPartitionOf n) (λ x. pair x (f x) ≡ pair x (g x)) (partitions n)
-    (λ x k. ap (λ m. pair x m) (h x k)) (all_partitions n)))
-  where
-    pair : List ℕ → ℕ → List ℕ × ℕ
-    pair x m = (x, m)
+    map-alike f g (partitions n) (all_mono (IsPartitionOf n) (λ x. f x ≡ g x) (partitions n) h (all_partitions n))
 
 abbrev tally_value : FockVector → List (List ℕ × ℕ) → TallyValue
 tally_value v ts = record { vector = v; totals = ts }
@@ -95,7 +90,7 @@ module _ (key : Key) (rank : ℕ) (p : IsPlace (place key rank)) where
       ap (λ d. tally_of (fock_vector d (ladder_vector e mu))) f.total
       ∙ ap₂ (λ es ts. tally_value (record { degree = n; entries = es }) ts)
       (entries-alike n (ladder_vector e mu) (left e mu rank) (λ lambda h. sym (left_start e mu rank start lambda)))
-      (totals_alike n (λ lambda. size (vector_of (entries n (ladder_vector e mu)) lambda)) (total e mu rank)
+      (totals-alike n (λ lambda. size (vector_of (entries n (ladder_vector e mu)) lambda)) (total e mu rank)
       (λ lambda h.
       ap (λ q. size q) (vector_of-entries n (ladder_vector e mu) lambda h)
       ∙ sym (total_start e mu rank start lambda)))
@@ -118,6 +113,41 @@ module _ (key : Key) (rank : ℕ) (p : IsPlace (place key rank)) where
   past_at_start lt =
       past_start e key.limit mu f.is_label rank start
       ∙ ap (λ b. b || share_past e key.limit mu (next_rank e mu rank)) (lt-ltb key.limit (ladder_weight e mu) lt)
+
+  -- ---- where nothing is past the limit
+
+  -- no total is, so the tally has none past it
+  pub totals_within : (t : ℕ) → is_past e key.limit mu t ≡ false → (lambda : List ℕ) →
+      IsPartitionOf (tally_at key mu t).vector.degree lambda →
+      total_of (tally_at key mu t).totals lambda ≤ key.limit
+  unfolding is_past
+  totals_within t h lambda k =
+      subst (λ m. m ≤ key.limit) (sym (total_of-totals n (total e mu t) lambda k))
+      (at_occurs (λ x. total e mu t x ≤ key.limit) lambda (partitions n) (each_partition n lambda k.partition k.total)
+      (within_map (total e mu t) key.limit (partitions n)
+      (within_greatest key.limit (map (total e mu t) (partitions n)) small)))
+    where
+      neither : (a b : Bool) → (a || b) ≡ false → (a ≡ false) × (b ≡ false)
+      neither true b w = absurd (cc)
+      neither false b w = (refl, w)
+
+      none : total_past e key.limit mu t ≡ false
+      none =
+          (neither (total_past e key.limit mu t) (share_past e key.limit mu (next_rank e mu t))
+          (neither (given_past e key.limit mu t) _ (neither (nat_lt key.limit (ladder_weight e mu)) _ h).1).1).0
+
+      greatest_total : ℕ
+      greatest_total = greatest (map (total e mu t) (partitions n))
+
+      small : greatest_total ≤ key.limit
+      small = elim (le_or_lt greatest_total key.limit) [
+        | inl le ↦ le
+        | inr lt ↦ absurd
+            (let w : false ≡ true =
+            sym none ∙ total_past_by e key.limit mu t
+            ∙ ap (λ d. nat_lt key.limit (greatest (map (total e mu t) (partitions d)))) f.total
+            ∙ lt-ltb key.limit greatest_total lt in cc)
+      ]
 
   -- ---- from rank to rank
 
@@ -155,7 +185,7 @@ module _ (key : Key) (rank : ℕ) (p : IsPlace (place key rank)) where
         plus (vector_of (entries n (left e mu t)) lambda)
         (times (negate alpha) (vector_of (entries n (regular_row e nu)) lambda)))
         (left e mu j) rest)
-        (totals_alike n (grown_total (tally_at key mu t) alpha row) (total e mu j) grown)
+        (totals-alike n (grown_total (tally_at key mu t) alpha row) (total e mu j) grown)
 
     -- the greatest total decides
     weight_step : total_past e key.limit mu j ≡ nat_lt key.limit (subtraction_weight (tally_at key mu t) alpha row)

@@ -1,5 +1,6 @@
 pub mod Existence
 pub mod Place
+pub mod Places
 pub mod Shares
 pub mod Found
 pub mod Laws

@@ -11,6 +11,12 @@ use Rattle.sp_llt.specs.declared.share.Share.{Share}
 abbrev pub lift_at : Vector → List (List ℕ) → ℕ → Laurent
 lift_at w rs j = lift (w (get_or rs j []))
 
+-- The lift at an element isn't 0, and is within the limit.
+pub record IsLift (w : Vector) (rs : List (List ℕ)) (j limit : ℕ) (alpha : Laurent) : Type 0 where
+  pub value : alpha ≡ lift_at w rs j
+  pub nonzero : alpha ≢ []
+  pub fits : size alpha ≤ limit
+
 -- These elements have coefficients whose lift is 0.
 abbrev pub NoLift : Vector → List (List ℕ) → ℕ → ℕ → Type 0
 NoLift w rs from end = (i : ℕ) → from ≤ i → i < end → lift_at w rs i ≡ []

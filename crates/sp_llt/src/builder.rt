@@ -1,20 +1,21 @@
 // How the entry of one rank is made from earlier entries.
-ghost use Rattle.std.specs.Prelude.{◌≡◌, ◌≢◌, ◌<◌, ℕ, IfOk, IfSome, None as Nothing, Some as Just, true, length};
-ghost use Rattle.std.specs.Option.{option_map};
+ghost use Rattle.std.specs.Prelude.{◌≡◌, ◌≢◌, ◌<◌, ℕ, IfOk, IfSome, None as Nothing, Some as Just, true, false, length};
 ghost use Rattle.sp_defs.specs.Row.{outcome, TooLarge as IsTooLarge};
 ghost use Rattle.sp_defs.specs.Statements.{SameContent};
-ghost use Rattle.sp_outcome_law.specs.Asking.{asked, next_rank, is_past};
+ghost use Rattle.sp_outcome_law.specs.Asking.{asked, next_rank, is_past, is_too_large};
 ghost use Rattle.sp_llt.specs.Place.{label, labels, place, progress, IsProgress};
-ghost use Rattle.sp_llt.specs.Reached.{IsBuilder, IsWithin, tally_at};
+ghost use Rattle.sp_llt.specs.Reached.{IsBuilder, IsOpen, IsWithin, row_at, tally_at};
+ghost use Rattle.sp_llt.specs.Refusals.{outcome_at};
 ghost use Rattle.sp_llt.specs.Shares.{given_shares};
 
 use crate::entry::Found;
 use crate::search::{next_share, stray_in};
 use crate::{Ctx, Entry, Share};
-use sp_fock::{FockFault, Tally};
+use sp_fock::FockFault;
 use sp_ladder::ladder_vector;
 use sp_laurent::LaurentFault;
 use sp_power::PowerFault;
+use sp_slots::{Indexed, Slots};
 use std::alloc::{AllocError, Global};
 use std::marker::Model;
 
@@ -28,16 +29,21 @@ pub struct Builder<'a> {
     state: State,
 }
 
-/// What is kept of the row.
+/// How far the row has come.
 #[derive(Drop)]
 pub(crate) enum State {
-    TooLarge,
-    /// The ladder vector without the given shares times their rows, the given shares, and the next one.
-    Open {
-        tally: Tally,
-        shares: Vec<Share>,
-        next: Option<Share>,
-    },
+    /// Another row is asked for.
+    Open(Unfinished),
+    /// No row is to come.
+    Decided(Found),
+}
+
+/// The ladder vector without the given shares times their rows, the given shares, and the next one.
+#[derive(Drop)]
+pub(crate) struct Unfinished {
+    pub(crate) slots: Slots,
+    pub(crate) shares: Vec<Share>,
+    pub(crate) next: Share,
 }
 
 impl<'a> Model for Builder<'a> {
@@ -60,8 +66,8 @@ impl<'a> Builder<'a> {
         let key = ctx.key();
         match ladder_vector(alloc, key.e, &ctx.regulars()[k], key.limit) {
             Ok(vector) => {
-                let tally = Tally::from_vector(alloc, vector)?;
-                Builder::reach(alloc, ctx, k, k, tally, Vec::new(alloc))
+                let slots = Slots::from_vector(alloc, ctx.all(), &vector)?;
+                Builder::reach(alloc, ctx, k, k, slots, Vec::new(alloc))
             }
             Err(PowerFault::TooLarge) => Ok(Builder::too_large(alloc, ctx, k, k)),
             Err(PowerFault::Memory) => Err(AllocError),
@@ -82,8 +88,8 @@ impl<'a> Builder<'a> {
         ensures held { IsProgress self.now }
     {
         match &self.state {
-            State::TooLarge => None,
-            State::Open { next, .. } => rank_of(next),
+            State::Open(unfinished) => Some(unfinished.next.rank),
+            State::Decided(_) => None,
         }
     }
 
@@ -97,32 +103,15 @@ impl<'a> Builder<'a> {
             alloc,
             ctx,
             rank,
-            reached: _,
+            reached,
             state,
         } = self;
-        let State::Open {
-            tally,
-            shares,
-            next,
-        } = state
-        else {
+        let State::Open(unfinished) = state else {
             unreachable!();
         };
-        let Some(share) = next else {
-            unreachable!();
-        };
-        let reached = share.rank;
-        let Some(row) = entry.regular_row() else {
-            return Ok(Builder::too_large(alloc, ctx, rank, reached));
-        };
-        match tally.subtract(alloc, &share.alpha, row, ctx.key().limit) {
-            Ok(tally) => {
-                let mut shares = shares;
-                shares.push(share)?;
-                Builder::reach(alloc, ctx, rank, reached, tally, shares)
-            }
-            Err(FockFault::TooLarge) => Ok(Builder::too_large(alloc, ctx, rank, reached)),
-            Err(FockFault::Memory) => Err(AllocError),
+        match entry.indexed_row() {
+            Some(row) => Builder::take_off(alloc, ctx, rank, reached, unfinished, row),
+            None => Ok(Builder::too_large(alloc, ctx, rank, unfinished.next.rank)),
         }
     }
 
@@ -138,18 +127,41 @@ impl<'a> Builder<'a> {
             reached: _,
             state,
         } = self;
-        let mu = ctx.regulars()[rank];
         match state {
-            State::TooLarge => Entry::new(ctx.key(), rank, mu, Found::TooLarge),
-            State::Open {
-                tally,
-                shares,
-                next: _,
-            } => {
-                let row = tally.into_vector();
-                let stray = stray_in(&row, &mu);
-                Entry::new(ctx.key(), rank, mu, Found::Whole { row, shares, stray })
+            State::Open(_) => unreachable!(),
+            State::Decided(found) => Entry::new(ctx.key(), rank, ctx.regulars()[rank], found),
+        }
+    }
+
+    // The builder once the row of the next share has been taken off.
+    fn take_off(
+        alloc: Global,
+        ctx: &'a Ctx,
+        rank: usize,
+        reached: usize,
+        unfinished: Unfinished,
+        row: &Indexed,
+    ) -> Result<Builder<'a>, AllocError>
+        requires place { IsProgress (progress ctx.now rank reached) }
+        requires asks { IsOpen ctx.now (label ctx.now rank) reached unfinished }
+        requires row { row.now ≡ row_at (place ctx.now unfinished.next.rank) }
+        requires fits { is_too_large (outcome_at (place ctx.now unfinished.next.rank)) ≡ false }
+        ensures { IfOk result (λ b. b ≡ progress ctx.now rank unfinished.next.rank) }
+    {
+        let Unfinished {
+            slots,
+            shares,
+            next,
+        } = unfinished;
+        let reached = next.rank;
+        match slots.subtract(alloc, &next.alpha, row, ctx.key().limit) {
+            Ok(slots) => {
+                let mut shares = shares;
+                shares.push(next)?;
+                Builder::reach(alloc, ctx, rank, reached, slots, shares)
             }
+            Err(FockFault::TooLarge) => Ok(Builder::too_large(alloc, ctx, rank, reached)),
+            Err(FockFault::Memory) => Err(AllocError),
         }
     }
 
@@ -164,7 +176,7 @@ impl<'a> Builder<'a> {
             ctx,
             rank,
             reached,
-            state: State::TooLarge,
+            state: State::Decided(Found::TooLarge),
         }
     }
 
@@ -174,45 +186,59 @@ impl<'a> Builder<'a> {
         ctx: &'a Ctx,
         rank: usize,
         reached: usize,
-        tally: Tally,
+        slots: Slots,
         shares: Vec<Share>,
     ) -> Result<Builder<'a>, AllocError>
         requires place { IsProgress (progress ctx.now rank reached) }
         requires within { IsWithin ctx.now (label ctx.now rank) reached }
-        requires left { tally ≡ tally_at ctx.now (label ctx.now rank) reached }
+        requires left { slots ≡ tally_at ctx.now (label ctx.now rank) reached }
         requires given { shares.items ≡ given_shares ctx.now.e (label ctx.now rank) reached }
         ensures { IfOk result (λ b. b ≡ progress ctx.now rank reached) }
     {
-        match next_share(
-            alloc,
-            ctx.regulars(),
-            tally.vector(),
-            reached,
-            ctx.key().limit,
-        ) {
-            Ok(next) => Ok(Builder {
+        match next_share(alloc, ctx.places(), &slots, reached, ctx.key().limit) {
+            Ok(Some(next)) => Ok(Builder {
                 alloc,
                 ctx,
                 rank,
                 reached,
-                state: State::Open {
-                    tally,
+                state: State::Open(Unfinished {
+                    slots,
                     shares,
                     next,
-                },
+                }),
             }),
+            Ok(None) => {
+                let row = slots.into_indexed(alloc, ctx.all())?;
+                Ok(Builder::whole(alloc, ctx, rank, reached, row, shares))
+            }
             Err(LaurentFault::TooLarge) => Ok(Builder::too_large(alloc, ctx, rank, reached)),
             Err(LaurentFault::Memory) => Err(AllocError),
         }
     }
-}
 
-// The rank of a share, if there is one.
-fn rank_of(share: &Option<Share>) -> Option<usize>
-    ensures { result ≡ option_map (λ s. s.rank) share.now }
-{
-    match share {
-        Some(share) => Some(share.rank),
-        None => None,
+    // The builder whose shares have all been given.
+    fn whole(
+        alloc: Global,
+        ctx: &'a Ctx,
+        rank: usize,
+        reached: usize,
+        row: Indexed,
+        shares: Vec<Share>,
+    ) -> Builder<'a>
+        requires place { IsProgress (progress ctx.now rank reached) }
+        requires within { IsWithin ctx.now (label ctx.now rank) reached }
+        requires last { next_rank ctx.now.e (label ctx.now rank) reached ≡ Nothing }
+        requires left { row ≡ (tally_at ctx.now (label ctx.now rank) reached).vector }
+        requires given { shares.items ≡ given_shares ctx.now.e (label ctx.now rank) reached }
+        ensures { result ≡ progress ctx.now rank reached }
+    {
+        let stray = stray_in(row.vector(), &ctx.regulars()[rank]);
+        Builder {
+            alloc,
+            ctx,
+            rank,
+            reached,
+            state: State::Decided(Found::Whole { row, shares, stray }),
+        }
     }
 }

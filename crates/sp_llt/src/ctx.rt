@@ -1,29 +1,34 @@
 // What all rows of one table share.
-ghost use Rattle.std.specs.Prelude.{◌≡◌, ◌≤◌, ◌<◌, ◌^◌, IfOk, length};
+ghost use Rattle.std.specs.Prelude.{◌≡◌, ◌≤◌, ◌<◌, ◌^◌, ℕ, [], IfOk, filter, length, map, get_or};
+ghost use Rattle.std.specs.List.{AllByRecursion};
+ghost use Rattle.sp_defs.specs.Partition.{partitions, is_regular};
 ghost use Rattle.sp_llt.specs.Place.{key_of, labels, IsKey};
+ghost use Rattle.sp_llt.specs.Places.{AreAt, ArePlaces};
 
 use sp_core::Key;
-use sp_partition::{DEGREE_LIMIT, Partition, regular_of};
+use sp_partition::{DEGREE_LIMIT, Partition, all_of};
 use std::alloc::{AllocError, Global};
 use std::marker::Model;
 
-/// An e, a degree and a limit on coefficients, with the list of the e-regular partitions of the degree.
+/// An e, a degree and a limit on coefficients, with the lists of all and of the e-regular partitions of the degree.
 #[derive(Drop)]
 pub struct Ctx {
     key: Key,
+    all: Vec<Partition>,
     regulars: Vec<Partition>,
+    // Where the e-regular ones stand among all.
+    places: Vec<usize>,
 }
 
 impl Model for Ctx {
-    ghost use Rattle.std.specs.Prelude.{◌≡◌};
     ghost use Rattle.sp_core.specs.declared.piece.Key.{Key};
-    ghost use Rattle.sp_llt.specs.Place.{labels, IsKey};
+    ghost use Rattle.sp_llt.specs.Places.{IsContext};
 
     ghost Value = { Key };
 
     ghost view = { λ c. c.key };
 
-    ghost invariant = { λ c. IsKey c.key × (c.regulars.items ≡ labels c.key) };
+    ghost invariant = { λ c. IsContext c.key c.all.items c.regulars.items c.places.items };
 }
 
 impl Ctx {
@@ -36,9 +41,13 @@ impl Ctx {
         requires most { limit < 2 ^ 127 }
         ensures { IfOk result (λ c. c ≡ key_of e degree limit) }
     {
+        let all = all_of(alloc, degree)?;
+        let (regulars, places) = regulars_among(alloc, &all, e)?;
         Ok(Ctx {
             key: Key { e, degree, limit },
-            regulars: regular_of(alloc, e, degree)?,
+            all,
+            regulars,
+            places,
         })
     }
 
@@ -59,4 +68,41 @@ impl Ctx {
     {
         &self.regulars
     }
+
+    /// All partitions of the degree, ascending. It takes no memory.
+    pub(crate) fn all(&self) -> &[Partition]
+        ensures value { result.now ≡ partitions self.now.degree }
+        ensures few { length result.now ≤ 2 ^ 16 }
+    {
+        &self.all
+    }
+
+    /// For each rank the place of its partition among all. It takes no memory.
+    pub(crate) fn places(&self) -> &[usize]
+        ensures { ArePlaces self.now result.now }
+    {
+        &self.places
+    }
+}
+
+// The e-regular partitions of a list, in its order, and where they stand in it.
+fn regulars_among(
+    alloc: Global,
+    all: &[Partition],
+    e: u8,
+) -> Result<(Vec<Partition>, Vec<usize>), AllocError>
+    requires { 2 ≤ e }
+    ensures regulars { IfOk result (λ found. found.0.items ≡ filter (is_regular e) all.now) }
+    ensures places { IfOk result (λ found. AreAt all.now found.0.items found.1.items) }
+{
+    let mut regulars = Vec::new(alloc);
+    let mut places = Vec::new(alloc);
+    for place in 0..all.len() {
+        let p = all[place];
+        if p.is_regular(e) {
+            regulars.push(p)?;
+            places.push(place)?;
+        }
+    }
+    Ok((regulars, places))
 }

@@ -4,6 +4,7 @@ use crate::{Ctx, Refused, Share};
 use sp_core::{Key, Piece};
 use sp_fock::Vector;
 use sp_partition::Partition;
+use sp_slots::Indexed;
 use std::marker::Model;
 
 /// The outcome of one e-regular partition: its regular row and shares, or that the row is too large.
@@ -22,7 +23,7 @@ pub(crate) enum Found {
     /// The regular row, the shares that aren't 0, by descending ranks, and the greatest other partition whose
     /// coefficient isn't in vZ[v].
     Whole {
-        row: Vector,
+        row: Indexed,
         shares: Vec<Share>,
         stray: Option<Partition>,
     },
@@ -103,7 +104,7 @@ impl Entry {
             Found::TooLarge => Err(Refused::TooLarge),
             Found::Whole { row, stray, .. } => match stray {
                 Some(at) => Err(Refused::Stray { at: *at }),
-                None => Ok(row),
+                None => Ok(row.vector()),
             },
         }
     }
@@ -115,6 +116,18 @@ impl Entry {
         ensures some { IfSome result (λ w. w.now ≡ fock_vector self.now.key.degree
             (regular_row self.now.key.e (label self.now.key self.now.rank))) }
         ensures law { IfSome result (λ w. ObeysRowLaw self.now w.now.entries) }
+    {
+        match &self.found {
+            Found::TooLarge => None,
+            Found::Whole { row, .. } => Some(row.vector()),
+        }
+    }
+
+    /// The regular row, with the places of its partitions among all of the degree. It takes no memory.
+    pub(crate) fn indexed_row(&self) -> Option<&Indexed>
+        ensures none { IsNone result ↔ (outcome_at self.now ≡ IsTooLarge) }
+        ensures some { IfSome result (λ w. w.now ≡ fock_vector self.now.key.degree
+            (regular_row self.now.key.e (label self.now.key self.now.rank))) }
     {
         match &self.found {
             Found::TooLarge => None,

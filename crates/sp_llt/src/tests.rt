@@ -92,6 +92,27 @@ fn shares_of_more_terms_and_needed_weights(rt: HostRuntime) -> Result<(), Fail> 
 }
 
 #[test]
+fn rows_of_greater_degrees(rt: HostRuntime) -> Result<(), Fail> {
+    let alloc = rt.alloc();
+    let large = b"too large".as_slice();
+    let ten = b"[10] + v[8,2] + v[7,2,1] + v[6,2,1^2] + v^2[5,2^2,1] + v[4,3,2,1] + v^2[4,3,1^3] \
+        + v^2[4,2^3] + v^2[3^3,1] + v^3[2^5]; 1 at 7,3"
+        .as_slice();
+    assert_eq!(rt; text(alloc, 3, &[10], 5)?.as_slice(), ten);
+    assert_eq!(rt; text(alloc, 3, &[10], 4)?.as_slice(), large);
+    let six_five = b"[6,5] + v[6,3,1^2] + v^2[6,1^5] + v[5,3,2,1] + v^2[4^2,2,1] + v^2[4,3,2^2] \
+        + v^3[4,3,2,1^2] + v^3[4,2^2,1^3] + v^4[2^5,1]; 1 at 6,3,2"
+        .as_slice();
+    assert_eq!(rt; text(alloc, 2, &[6, 5], 5)?.as_slice(), six_five);
+    assert_eq!(rt; text(alloc, 2, &[6, 5], 4)?.as_slice(), large);
+    let six_four = b"[6,4] + v[6,2^2] + v^2[4^2,2]; 1 at 4^2,2; v^-1+v at 3^2,2,1^2".as_slice();
+    assert_eq!(rt; text(alloc, 3, &[6, 4], 1_000_000)?.as_slice(), six_four);
+    let thirty = b"[30] + v[29,1]".as_slice();
+    assert_eq!(rt; text(alloc, 30, &[30], 1_000_000)?.as_slice(), thirty);
+    Ok(())
+}
+
+#[test]
 fn the_empty_partition_has_a_row(rt: HostRuntime) -> Result<(), Fail> {
     assert_eq!(rt; text(rt.alloc(), 2, &[], 1)?.as_slice(), b"[-]".as_slice());
     Ok(())

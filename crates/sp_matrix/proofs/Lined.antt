@@ -21,7 +21,7 @@ use Rattle.sp_fock_law.specs.Grid.{GridValue, IsGrid, cell_of}
 use Rattle.sp_fock_law.proofs.Vectors.{all_at as entries_keep}
 use Rattle.sp_outcome_law.proofs.Exceeding.{greatest_past}
 use Rattle.sp_outcome_law.proofs.Listed.{any-map}
-use Rattle.sp_llt.proofs.Lists.{map_alike}
+use Rattle.sp_lists.proofs.Maps.{map-alike}
 use Rattle.sp_module_defs.specs.Jantzen.{jantzen_sum}
 use Rattle.sp_module_defs.specs.Agreement.{Cells, agrees, agreement_weight, jantzen_entries}
 use Rattle.sp_module_defs.specs.Agreement.{jantzen_value, jantzen_size}
@@ -85,7 +85,7 @@ pub products_are : (e : ℕ) (g : GridValue) (p : List ℕ) (j : ℕ) → HasAll
     products_at g j (terms_of e g p) ≡ map (factors_at (cell_at g) (get_or g.columns j [])) (jantzen_entries e p)
 products_are e g p j all h of lt =
     map-map (λ (t : Term). (t.coefficient, value_at_one (cell_of g t.line j))) (term_of g) (jantzen_entries e p)
-    ∙ map_alike (λ t. (value_at_one t.1, value_at_one (cell_of g (place g.lines t.0) j)))
+    ∙ map-alike (λ t. (value_at_one t.1, value_at_one (cell_of g (place g.lines t.0) j)))
     (factors_at (cell_at g) (get_or g.columns j [])) (jantzen_entries e p)
     (all_weaken (λ t. place g.lines t.0 < length g.lines)
     (λ t. (value_at_one t.1, value_at_one (cell_of g (place g.lines t.0) j))

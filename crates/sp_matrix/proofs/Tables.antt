@@ -14,7 +14,8 @@ use Rattle.sp_lists.proofs.Places.{all_weaken}
 use Rattle.sp_shapes.proofs.Listing.{all_partitions, partitions_ascend, all_regulars, regulars_ascend, Ascending-filter}
 use Rattle.sp_fock_law.specs.Grid.{IsHeading, IsGrid}
 use Rattle.sp_fock_law.proofs.Vectors.{vector_of-entries}
-use Rattle.sp_llt.proofs.Lists.{all_reverse, map_alike}
+use Rattle.sp_lists.proofs.Elements.{all_reverse}
+use Rattle.sp_lists.proofs.Maps.{map-alike}
 use Rattle.sp_module_defs.specs.Agreement.{Cells}
 use Rattle.sp_matrix.specs.declared.scope.Scope.{Scope}
 use Rattle.sp_matrix.specs.declared.scope.Scope.TheVariants.{All, Block}
@@ -95,7 +96,7 @@ line_is : (e n : ℕ) (form : Form) (columns : List (List ℕ)) (lambda : List �
     line_cells form (map (row_of e n) columns) lambda ≡ map (cell_of e form lambda) columns
 line_is e n form columns lambda h =
     map-map (λ (v : FockVector). shown form (vector_of v.entries lambda)) (row_of e n) columns
-    ∙ map_alike (λ mu. shown form (vector_of (row_of e n mu).entries lambda)) (cell_of e form lambda) columns
+    ∙ map-alike (λ mu. shown form (vector_of (row_of e n mu).entries lambda)) (cell_of e form lambda) columns
     (all_every (λ mu. shown form (vector_of (row_of e n mu).entries lambda) ≡ cell_of e form lambda mu) columns
     (λ mu. ap (shown form) (vector_of-entries n (regular_row e mu) lambda h)))
 
@@ -106,7 +107,7 @@ unfolding table_of
 cells_are e n s form =
     let columns = within e s (columns_of e n) in
     let lines = within e s (lines_of n) in
-    map_alike (line_cells form (map (row_of e n) columns)) (λ lambda. map (cell_of e form lambda) columns) lines
+    map-alike (line_cells form (map (row_of e n) columns)) (λ lambda. map (cell_of e form lambda) columns) lines
     (all_weaken (IsPartitionOf n)
     (λ lambda. line_cells form (map (row_of e n) columns) lambda ≡ map (cell_of e form lambda) columns) lines
     (λ lambda h. line_is e n form columns lambda h) (lines_heading e n s).partitions_of)

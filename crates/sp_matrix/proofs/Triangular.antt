@@ -19,7 +19,7 @@ use Rattle.sp_shapes.proofs.Order.{equal_self}
 use Rattle.sp_partition.specs.OrderLaws.{equal_lists, lists_equal}
 use Rattle.sp_row_law.proofs.RowsLaw.{rows_law}
 use Rattle.sp_outcome_law.proofs.Earlier.{row_earlier}
-use Rattle.sp_llt.proofs.Lists.{all_reverse}
+use Rattle.sp_lists.proofs.Elements.{all_reverse}
 use Rattle.sp_module_defs.specs.Agreement.{Cells}
 use Rattle.sp_dims.specs.Cells.{place, cell_at}
 use Rattle.sp_dims.specs.Solution.{IsUnitriangular as IsSquareUnitriangular}

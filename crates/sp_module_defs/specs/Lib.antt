@@ -1,3 +1,4 @@
 pub mod Jantzen
 pub mod Agreement
+pub mod Cells
 pub mod Dims

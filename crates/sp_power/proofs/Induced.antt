@@ -12,7 +12,7 @@ use Rattle.sp_defs.specs.Power.{IsVector, FockVector, fock_vector}
 use Rattle.sp_defs.specs.Within.{PowersWithin}
 use Rattle.sp_lists.proofs.Elements.{all_append, all_map, all_filter, all_both}
 use Rattle.sp_algebra.proofs.Sums.{IsLaurent-sum_over}
-use Rattle.sp_shapes.proofs.Order.{all_mono}
+use Rattle.sp_lists.proofs.Places.{all_weaken}
 use Rattle.sp_shapes.proofs.Listing.{all_partitions}
 use Rattle.sp_fock.specs.Held.{IsHeld, held_as, ArePairs}
 use Rattle.sp_fock_law.proofs.Vectors.{entries-vector_of, IsVector-entries}
@@ -26,10 +26,11 @@ use Rattle.sp_power.specs.Arrivals.{half_power_limit, AllWithin, HasRoom, IsBrou
 
 -- ---- before
 
+-- To each entry of a vector m nodes can be added, where the degree and m are at most 32.
 pub all_room : (n m : ℕ) (es : Entries) → AllByRecursion (λ s. IsPartitionOf n s.0) es → n + m ≤ 32 →
     AllByRecursion (HasRoom m) es
 all_room n m es all room =
-    all_mono (λ s. IsPartitionOf n s.0) (HasRoom m) es
+    all_weaken (λ s. IsPartitionOf n s.0) (HasRoom m) es
     (λ s h. record { partition = h.partition; small = omega (arith, h.total) }) all
 
 -- ---- the moves
@@ -42,14 +43,15 @@ all_there e i m place (s ∷ es) =
     (arrivals e i m (place + 1) es)
     (all_map (λ t. t.1 < place + length (s ∷ es)) (λ t. (t.0, place, t.1)) (moves e i m s.0)
     (all_every (moves e i m s.0)))
-    (all_mono (λ t. t.1 < place + 1 + length es) (λ t. t.1 < place + length (s ∷ es)) (arrivals e i m (place + 1) es)
+    (all_weaken (λ t. t.1 < place + 1 + length es) (λ t. t.1 < place + length (s ∷ es)) (arrivals e i m (place + 1) es)
     (λ t h. omega arith) (all_there e i m (place + 1) es))
   where
     all_every : (xs : List Reached) → AllByRecursion (λ t. place < place + length (s ∷ es)) xs
     all_every [] = tt
     all_every (x ∷ xs) = (omega arith, all_every xs)
 
-few_moves : (m n : ℕ) → n + m ≤ 32 → m * (n + 1) ≤ 2000
+-- How far an exponent can lie from 0, by the degree and the number of nodes.
+pub few_moves : (m n : ℕ) → n + m ≤ 32 → m * (n + 1) ≤ 2000
 few_moves m n h = omega (arith, mul-le-mul_right (n + 1) at_most, mul-le-mul_left 32 less)
   where
     at_most : m ≤ 32
@@ -67,9 +69,10 @@ module _ (e i m n : ℕ) (es : Entries) (ts : List Arrival) (h : AreSorted e i m
   targets : AllByRecursion (λ t. IsPartitionOf (n + m) t.0) ts
   targets = moved (λ t. IsPartitionOf (n + m) t.0) (all_targets e i m n 0 es h.e_least h.vector.partitions_of)
 
+  -- Each move comes from an entry, with an exponent and powers that are within the limit together.
   pub all_brought : AllWithin half_power_limit es → AllByRecursion (IsBrought es) ts
   all_brought within =
-      all_mono (λ t. ((unsigned_abs t.2 ≤ m * (n + 1)) × PowersWithin half_power_limit (polynomial_at es t.1)) ×
+      all_weaken (λ t. ((unsigned_abs t.2 ≤ m * (n + 1)) × PowersWithin half_power_limit (polynomial_at es t.1)) ×
       ((t.1 < 0 + length es) × IsPartitionOf (n + m) t.0)) (IsBrought es) ts
       (λ t f. record {
         there = omega (arith, f.1.0);
@@ -86,7 +89,7 @@ module _ (e i m n : ℕ) (es : Entries) (ts : List Arrival) (h : AreSorted e i m
 
   ordered : InOrder ts
   ordered = in_order (n + m) ts
-      (all_mono (λ t. IsPartitionOf (n + m) t.0) (λ t. degree t.0 ≡ n + m) ts (λ t f. f.total) targets) h.sorted
+      (all_weaken (λ t. IsPartitionOf (n + m) t.0) (λ t. degree t.0 ≡ n + m) ts (λ t f. f.total) targets) h.sorted
 
   same : entries n (vector_of es) ≡ es
   same = entries-vector_of n es h.vector
@@ -99,6 +102,7 @@ module _ (e i m n : ℕ) (es : Entries) (ts : List Arrival) (h : AreSorted e i m
 
   -- ---- after
 
+  -- The sums are a vector that the code can hold.
   pub held_after : (sums : Entries) → sums ≡ sums_of es (runs ts) → ArePairs sums → IsHeld (held_as (n + m) sums)
   unfolding divided_power
   held_after sums is pairs = record {
@@ -115,13 +119,14 @@ module _ (e i m n : ℕ) (es : Entries) (ts : List Arrival) (h : AreSorted e i m
       (map (λ nu. (nu, divided_power e i m (vector_of es) nu)) (partitions (n + m)))
       (all_map (λ t. nat_lt 0 (length t.1) ≡ true → PowersWithin (m * (n + 1) + d) t.1)
       (λ nu. (nu, divided_power e i m (vector_of es) nu)) (partitions (n + m))
-      (all_mono (IsPartitionOf (n + m))
+      (all_weaken (IsPartitionOf (n + m))
       (λ nu. nat_lt 0 (length (divided_power e i m (vector_of es) nu)) ≡ true →
       PowersWithin (m * (n + 1) + d) (divided_power e i m (vector_of es) nu)) (partitions (n + m))
       (λ nu f _. near_power e i m n d es nu h.e_least h.vector.partitions_of same within f) (all_partitions (n + m))))
 
 -- ---- as the code has it: the pairs and the moves under names of their own
 
+-- What is found and sorted are all moves in order.
 pub sorted_by : (e i m n : ℕ) (pairs es : Entries) (found moves : List Arrival) → 2 ≤ e → n + m ≤ 32 → IsVector n es →
     pairs ≡ es →
     found ≡ arrivals e i m 0 pairs → IsPermutation found moves → IsSortedByKey (λ t. t.0) order moves →
@@ -134,16 +139,19 @@ sorted_by e i m n pairs es found moves he room v same_pairs is perm up = record 
   sorted = up;
 }
 
+-- Each move that is read comes from a pair.
 pub brought_by : (pairs es : Entries) (moves read : List Arrival) → pairs ≡ es → read ≡ moves →
     AllByRecursion (IsBrought es) moves → AllByRecursion (IsBrought pairs) read
 brought_by pairs es moves read same_pairs same_moves h =
     subst (λ p. AllByRecursion (IsBrought p) read) (sym same_pairs)
     (subst (AllByRecursion (IsBrought es)) (sym same_moves) h)
 
+-- The sums over the moves that are read are those over the moves.
 pub sums_by : (pairs es : Entries) (moves read : List Arrival) → pairs ≡ es → read ≡ moves →
     sums_of pairs (runs read) ≡ sums_of es (runs moves)
 sums_by pairs es moves read same_pairs same_moves = ap₂ (λ p l. sums_of p (runs l)) same_pairs same_moves
 
+-- The greatest size of a run that is read is the weight of the induction.
 pub sizes_by : (e i m n : ℕ) (pairs es : Entries) (moves read : List Arrival) → pairs ≡ es → read ≡ moves →
     AreSorted e i m n es moves →
     greatest (sizes_of pairs (runs read)) ≡ induction_weight e i m n (vector_of es)
@@ -152,10 +160,12 @@ sizes_by e i m n pairs es moves read same_pairs same_moves s =
 
 module _ (e i m n : ℕ) (es : Entries) (moves : List Arrival) (s : AreSorted e i m n es moves) (k : ℕ)
     (sums : Entries) where
+  -- The sums make the divided power.
   pub vector_after : k ≡ n → sums ≡ sums_of es (runs moves) →
       held_as (k + m) sums ≡ fock_vector (n + m) (divided_power e i m (vector_of es))
   vector_after degree_is is = ap₂ (λ j l. held_as (j + m) l) degree_is (is ∙ sums_are e i m n es moves s)
 
+  -- The powers of the divided power are not far from those of the vector.
   pub within_after : (result : FockVector) (d : ℕ) → result ≡ held_as (k + m) sums → sums ≡ sums_of es (runs moves) →
       AllWithin d es → AllWithin (m * (n + 1) + d) result.entries
   within_after result d made is within =

@@ -7,13 +7,12 @@ use Rattle.sp_algebra.proofs.Sizes.{within_more}
 use Rattle.sp_fock_law.proofs.Single.{entries-unit}
 use Rattle.sp_power.specs.Arrivals.{AllWithin}
 
+-- The powers of the vector with 1 at a partition are within any bound.
 pub unit_within : (d : ℕ) (p : List ℕ) (v : FockVector) → IsPartition p → v ≡ fock_vector (degree p) (unit p) →
     AllWithin d v.entries
 unit_within d p v h is = subst (AllWithin d) (sym (ap (λ w. w.entries) is ∙ entries-unit p h)) (((omega arith, tt), tt))
 
+-- Powers within one bound are within a greater one.
 pub all_more : (d e : ℕ) (es : Entries) → d ≤ e → AllWithin d es → AllWithin e es
 all_more d e [] le h = tt
 all_more d e (t ∷ es) le (h, hs) = (within_more d e t.1 le h, all_more d e es le hs)
-
-pub few_powers : (m n : ℕ) → m ≤ 10 → n ≤ 20 → m * (n + 1) + 0 ≤ 1000
-few_powers m n h k = omega (arith, mul-le-mul_right (n + 1) h, mul-le-mul_left 10 k)

@@ -89,7 +89,7 @@ fn run_fits(pairs: &[(Partition, Laurent)], run: &[Arrival], limit: u128) -> boo
     true
 }
 
-// The sum over a run.
+// The sum over a run: the first share is a copy with its powers shifted, and the others are added to it in place.
 fn run_sum(
     alloc: Global,
     pairs: &[(Partition, Laurent)],
@@ -103,29 +103,43 @@ fn run_sum(
     ensures sum { IfOk result (λ sum. sum ≡ sum_over run.now (share_of pairs.now)) }
     ensures fits { ¬ IsErrOf result PowerFault.TooLarge }
 {
-    let mut sum = Laurent::zero(alloc);
-    for arrival in run {
-        add_share(alloc, &mut sum, pairs, arrival, limit)?;
+    let [first, others @ ..] = run else {
+        return Ok(Laurent::zero(alloc));
+    };
+    let mut sum = share(alloc, pairs, first)?;
+    for arrival in others {
+        sum = plus_share(alloc, sum, pairs, arrival, limit)?;
     }
     Ok(sum)
 }
 
-// Adds what one move brings.
-fn add_share(
+// What one move brings.
+fn share(
     alloc: Global,
-    sum: &mut Laurent,
+    pairs: &[(Partition, Laurent)],
+    arrival: &Arrival,
+) -> Result<Laurent, AllocError>
+    requires { IsBrought pairs.now arrival.now }
+    ensures { IfOk result (λ share. share ≡ share_of pairs.now arrival.now) }
+{
+    pairs[arrival.source].1.shifted(alloc, arrival.exponent)
+}
+
+// A sum and what one move more brings.
+fn plus_share(
+    alloc: Global,
+    sum: Laurent,
     pairs: &[(Partition, Laurent)],
     arrival: &Arrival,
     limit: u128,
-) -> Result<(), PowerFault>
+) -> Result<Laurent, PowerFault>
     requires least { 1 ≤ limit }
     requires most { limit < 2 ^ 127 }
     requires brought { IsBrought pairs.now arrival.now }
-    requires fits { size sum.old + size_of pairs.now arrival.now ≤ limit }
-    ensures sum { OnOk result (sum.new ≡ plus sum.old (share_of pairs.now arrival.now)) }
+    requires fits { size sum + size_of pairs.now arrival.now ≤ limit }
+    ensures sum { IfOk result (λ more. more ≡ plus sum (share_of pairs.now arrival.now)) }
     ensures fits { ¬ IsErrOf result PowerFault.TooLarge }
 {
     let power = Laurent::monomial(alloc, 1, arrival.exponent)?;
-    sum.add_scaled(alloc, &power, &pairs[arrival.source].1, limit)?;
-    Ok(())
+    Ok(sum.plus_product(&power, &pairs[arrival.source].1, limit)?)
 }

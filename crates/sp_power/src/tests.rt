@@ -11,7 +11,7 @@ use std::test::Fail;
 
 // Adds m nodes of residue `i` modulo 2 to a partition.
 fn induced(rt: &impl Abort, alloc: Global, i: u8, m: u8, parts: &[u8]) -> Result<Vector, Fail>
-    ensures { IfOk result (λ v. AllWithin 1000 v.entries) }
+    ensures { IfOk result (λ v. AllWithin 2000 v.entries) }
 {
     let p = Partition::from_parts(parts)?;
     assert!(rt; i < 2);

@@ -9,7 +9,8 @@ use Rattle.std.specs.declared.cmp.Ordering.{Ordering}
 use Rattle.std.specs.declared.cmp.Ordering.TheVariants.{Less, Equal, Greater}
 use Rattle.std.proofs.lemmas.Cmp.{nat_cmp_total, tied_itself}
 use Rattle.sp_defs.specs.Partition.{degree, compare, order, IsEarlier}
-use Rattle.sp_shapes.proofs.Order.{all_mono, equal_self, same_lists, less_trans, later_than}
+use Rattle.sp_lists.proofs.Places.{all_weaken}
+use Rattle.sp_shapes.proofs.Order.{equal_self, same_lists, less_trans, later_than}
 use Rattle.sp_power_law.specs.Runs.{is_at, Arrival, Run, joined, runs}
 use Rattle.sp_power_law.proofs.Runs.{InOrder, runs-begin, same_or_later}
 
@@ -109,12 +110,13 @@ next_in_order : (t u : Arrival) (ts : List Arrival) → is_lt (compare u.0 t.0) 
 next_in_order t u ts first (later, rest) = (
   (
     first,
-    all_mono (λ v. is_lt (compare v.0 u.0) ≡ false) (λ v. is_lt (compare v.0 t.0) ≡ false) ts
+    all_weaken (λ v. is_lt (compare v.0 u.0) ≡ false) (λ v. is_lt (compare v.0 t.0) ≡ false) ts
         (λ v after. not_before_trans t.0 u.0 v.0 first after) later,
   ),
   (later, rest),
 )
 
+-- What a sort by the partition leaves is in order, where all partitions have one degree.
 pub in_order : (n : ℕ) (ts : List Arrival) → AllByRecursion (λ t. degree t.0 ≡ n) ts →
     IsSortedByKey (λ t. t.0) order ts → InOrder ts
 in_order n [] h up = tt

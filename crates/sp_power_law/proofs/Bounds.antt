@@ -13,12 +13,13 @@ use Rattle.sp_defs.specs.Within.{PowersWithin}
 use Rattle.sp_lists.proofs.Elements.{all_append, all_map, all_filter}
 use Rattle.sp_algebra.proofs.Sizes.{within_plus, within_times, product_within}
 use Rattle.sp_shapes.proofs.Degrees.{length-degree}
-use Rattle.sp_shapes.proofs.Order.{all_mono}
+use Rattle.sp_lists.proofs.Places.{all_weaken}
+use Rattle.std.proofs.Math.Seq.{get_or-append_seam}
 use Rattle.sp_power_law.specs.Walk.{Reached, moves_through, moves}
 use Rattle.sp_power_law.specs.Runs.{is_at, Arrival, arrivals, polynomial_at, share_of}
 use Rattle.sp_power_law.proofs.Gains.{addable_at, removable_at, not_both}
 use Rattle.sp_power_law.proofs.Rows.{row_marks_are}
-use Rattle.sp_power_law.proofs.Exchange.{at_length, sum_of_arrivals}
+use Rattle.sp_power_law.proofs.Exchange.{sum_of_arrivals}
 
 -- ---- on the way down
 
@@ -35,7 +36,7 @@ near_through b [] (suc m) parts d x h = tt
 near_through b ((Addable, y) ∷ marks) (suc m) parts d x h =
     all_append (Near (unsigned_abs x + suc m * b)) (moves_through marks m (add_node parts y) d (x +ℤ d))
     (moves_through marks (suc m) parts (d +ℤ pos 1) x)
-    (all_mono (Near (unsigned_abs (x +ℤ d) + m * b)) (Near (unsigned_abs x + suc m * b))
+    (all_weaken (Near (unsigned_abs (x +ℤ d) + m * b)) (Near (unsigned_abs x + suc m * b))
     (moves_through marks m (add_node parts y) d (x +ℤ d))
     (λ t g. further (unsigned_abs t.1) m g) (near_through b marks m (add_node parts y) d (x +ℤ d) (omega arith)))
     (near_through b marks (suc m) parts (d +ℤ pos 1) x (omega (arith, one_up d)))
@@ -80,6 +81,7 @@ few_marks e i parts r (suc n) he =
       few_marks e i parts (r + 1) n he,
     )
 
+-- A signature has at most one mark for each row, and one for the row below the last.
 pub length-signature : (e i : ℕ) (parts : List ℕ) → 2 ≤ e → length (signature e i parts) ≤ length parts + 1
 unfolding signature
 length-signature e i parts he = few_marks e i parts 1 (length parts + 1) he
@@ -89,7 +91,7 @@ pub near_moves : (e i m n : ℕ) (parts : List ℕ) → 2 ≤ e → IsPartitionO
     AllByRecursion (λ t. unsigned_abs t.1 ≤ m * (n + 1)) (moves e i m parts)
 unfolding moves
 near_moves e i m n parts he h =
-    all_mono (Near (0 + m * (n + 1))) (Near (m * (n + 1)))
+    all_weaken (Near (0 + m * (n + 1))) (Near (m * (n + 1)))
     (moves_through (signature e i parts) m parts (pos 0) (pos 0)) (λ t g. omega arith)
     (near_through (n + 1) (signature e i parts) m parts (pos 0) (pos 0)
     (omega (arith, length-signature e i parts he, length-degree parts h.partition, h.total)))
@@ -108,10 +110,10 @@ near_shares e i m n b front (s ∷ es) he (h, hs) (k, ks) =
     (map (λ t. (t.0, length front, t.1)) (moves e i m s.0)) (arrivals e i m (length front + 1) es)
     (all_map (λ t. (unsigned_abs t.2 ≤ m * (n + 1)) × PowersWithin b (polynomial_at (front ++ (s ∷ es)) t.1))
     (λ t. (t.0, length front, t.1)) (moves e i m s.0)
-    (all_mono (λ t. unsigned_abs t.1 ≤ m * (n + 1))
+    (all_weaken (λ t. unsigned_abs t.1 ≤ m * (n + 1))
     (λ t. (unsigned_abs t.1 ≤ m * (n + 1)) × PowersWithin b (polynomial_at (front ++ (s ∷ es)) (length front)))
     (moves e i m s.0)
-    (λ t g. (g, subst (λ l. PowersWithin b l) (sym (ap (λ x. x.1) (at_length front s es ([], [])))) k))
+    (λ t g. (g, subst (λ l. PowersWithin b l) (sym (ap (λ x. x.1) (get_or-append_seam front s es ([], [])))) k))
     (near_moves e i m n s.0 he h)))
     (subst (λ l. AllByRecursion (λ t. (unsigned_abs t.2 ≤ m * (n + 1)) × PowersWithin b (polynomial_at l t.1))
     (arrivals e i m (length front + 1) es)) (append_assoc front (s ∷ []) es)
@@ -127,12 +129,14 @@ unfolding sum_over
 near_sum b f [] h = tt
 near_sum b f (x ∷ xs) (h, hs) = within_plus b (f x) (sum_over xs f) h (near_sum b f xs hs)
 
+-- What an arrival brings is near where its exponent and the polynomial of its entry are.
 pub near_share : (far b : ℕ) (es : Entries) (t : Arrival) → unsigned_abs t.2 ≤ far →
     PowersWithin b (polynomial_at es t.1) → PowersWithin (far + b) (share_of es t)
 near_share far b es t h k =
     within_times (far + b) (power t.2) (polynomial_at es t.1)
     (product_within far b (far + b) (power t.2) (polynomial_at es t.1) (omega arith) (h, tt) k)
 
+-- The powers of a divided power are at most m * (n + 1) further than those of the vector.
 pub near_power : (e i m n b : ℕ) (es : Entries) (nu : List ℕ) → 2 ≤ e → AllByRecursion (λ s. IsPartitionOf n s.0) es →
     entries n (vector_of es) ≡ es → AllByRecursion (λ s. PowersWithin b s.1) es → IsPartitionOf (n + m) nu →
     PowersWithin (m * (n + 1) + b) (divided_power e i m (vector_of es) nu)
@@ -140,6 +144,6 @@ near_power e i m n b es nu he all same near h =
     subst (λ p. PowersWithin (m * (n + 1) + b) p) (sum_of_arrivals e i m he nu h.partition n h.total es all same)
     (near_sum (m * (n + 1) + b) (share_of es) (filter (is_at nu) (arrivals e i m 0 es))
     (all_filter (λ t. PowersWithin (m * (n + 1) + b) (share_of es t)) (is_at nu) (arrivals e i m 0 es)
-    (all_mono (λ t. (unsigned_abs t.2 ≤ m * (n + 1)) × PowersWithin b (polynomial_at es t.1))
+    (all_weaken (λ t. (unsigned_abs t.2 ≤ m * (n + 1)) × PowersWithin b (polynomial_at es t.1))
     (λ t. is_at nu t ≡ true → PowersWithin (m * (n + 1) + b) (share_of es t)) (arrivals e i m 0 es)
     (λ t g _. near_share (m * (n + 1)) b es t g.0 g.1) (near_shares e i m n b [] es he all near))))

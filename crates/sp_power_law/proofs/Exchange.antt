@@ -5,18 +5,19 @@ use Rattle.std.proofs.Common.{length}
 use Rattle.std.proofs.Common.{refl, sym, ◌∙◌, ap, ap₂, arith, sum_by, append_assoc, length-append, add-zero, ◌≤◌}
 use Rattle.std.proofs.Common.{lt-ltb}
 use Rattle.std.specs.List.{AllByRecursion}
-use Rattle.std.specs.Prelude.{slice_index_or}
 use Rattle.std.proofs.lemmas.List.Sums.{sum_by-cons, sum_by-append}
 use Rattle.sp_defs.specs.Partition.{degree, partitions, IsPartition, IsPartitionOf}
 use Rattle.sp_defs.specs.Laurent.{Laurent, power, plus, times, sum_over, size}
 use Rattle.sp_defs.specs.Power.{Vector, Entries, vector_of, entries, is_move, exponent, sources, divided_power}
 use Rattle.sp_defs.specs.Power.{reaching_size}
 use Rattle.sp_lists.proofs.Elements.{filter_append}
+use Rattle.sp_lists.proofs.Maps.{filter-map}
+use Rattle.sp_lists.proofs.Places.{all_weaken}
 use Rattle.sp_lists.proofs.Counts.{sum-filter, sum-map}
 use Rattle.sp_algebra.proofs.Laws.{IsLaurent-times, plus_nought, times_nought}
 use Rattle.sp_algebra.proofs.Sums.{sum_over-append, sum_over-map}
 use Rattle.sp_algebra.proofs.Reordered.{sum_over-filter}
-use Rattle.sp_shapes.proofs.Order.{all_mono}
+use Rattle.std.proofs.Math.Seq.{get_or-append_seam}
 use Rattle.sp_power_law.specs.Walk.{Reached, moves}
 use Rattle.sp_power_law.specs.Runs.{is_at, Arrival, arrivals, share_of, size_of}
 use Rattle.sp_power_law.proofs.Ways.{moves_to}
@@ -25,25 +26,9 @@ use Rattle.sp_power_law.proofs.Ways.{moves_to}
 abbrev pub reach : ℕ → ℕ → ℕ → List ℕ → List ℕ → Laurent → Laurent
 reach e i m nu lambda p = cond (is_move e i m lambda nu) (times (power (exponent e i lambda nu)) p) []
 
+-- The size of what a polynomial at lambda adds at nu, if it adds anything.
 abbrev pub reach_size : ℕ → ℕ → ℕ → List ℕ → List ℕ → Laurent → ℕ
 reach_size e i m nu lambda p = cond (is_move e i m lambda nu) (size p) 0
-
--- ---- lists
-
-filter-map : {X Y : Type 0} (t : Y → Bool) (f : X → Y) (xs : List X) →
-    filter t (map f xs) ≡ map f (filter (λ x. t (f x)) xs)
-filter-map t f [] = refl
-filter-map t f (x ∷ xs) =
-    elim (t (f x)) as (λ b. cond b (f x ∷ filter t (map f xs)) (filter t (map f xs)) ≡ map f
-    (cond b (x ∷ filter (λ x. t (f x)) xs) (filter (λ x. t (f x)) xs))) [
-      | true ↦ ap (λ l. f x ∷ l) (filter-map t f xs)
-      | false ↦ filter-map t f xs
-    ]
-
-pub at_length : {X : Type 0} (front : List X) (x : X) (back : List X) (d : X) →
-    slice_index_or (front ++ (x ∷ back)) (length front) d ≡ x
-at_length [] x back d = refl
-at_length (y ∷ front) x back d = at_length front x back d
 
 -- ---- the arrivals at nu: one from each entry from which there is a move
 
@@ -88,7 +73,7 @@ module _ (e i m : ℕ) (he : 2 ≤ e) (nu : List ℕ) (pn : IsPartition nu) wher
           sum_over (cond b ((nu, length front, exponent e i s.0 nu) ∷ []) []) (share_of (front ++ (s ∷ es))) ≡ cond b
           (times (power (exponent e i s.0 nu)) s.1) []
       one true =
-          ap (λ p. plus (times (power (exponent e i s.0 nu)) p) []) (ap (λ x. x.1) (at_length front s es ([], [])))
+          ap (λ p. plus (times (power (exponent e i s.0 nu)) p) []) (ap (λ x. x.1) (get_or-append_seam front s es ([], [])))
           ∙ plus_nought (times (power (exponent e i s.0 nu)) s.1) (IsLaurent-times (power (exponent e i s.0 nu)) s.1)
       one false = refl
 
@@ -111,7 +96,7 @@ module _ (e i m : ℕ) (he : 2 ≤ e) (nu : List ℕ) (pn : IsPartition nu) wher
           (size s.1) 0
       one true =
           sum_by-cons (size_of (front ++ (s ∷ es))) (nu, length front, exponent e i s.0 nu) []
-          ∙ ap (λ x. size x.1 + 0) (at_length front s es ([], [])) ∙ add-zero (size s.1)
+          ∙ ap (λ x. size x.1 + 0) (get_or-append_seam front s es ([], [])) ∙ add-zero (size s.1)
       one false = refl
 
   -- ---- the sum over the partitions of n
@@ -177,8 +162,9 @@ module _ (e i m : ℕ) (he : 2 ≤ e) (nu : List ℕ) (pn : IsPartition nu) wher
     module _ (es : Entries) (all : AllByRecursion (λ s. IsPartitionOf n s.0) es)
         (same : entries n (vector_of es) ≡ es) where
       all_partition : AllByRecursion (λ s. IsPartition s.0) es
-      all_partition = all_mono (λ s. IsPartitionOf n s.0) (λ s. IsPartition s.0) es (λ s h. h.partition) all
+      all_partition = all_weaken (λ s. IsPartitionOf n s.0) (λ s. IsPartition s.0) es (λ s h. h.partition) all
 
+      -- The arrivals at nu, summed, are the divided power there.
       pub sum_of_arrivals : sum_over (filter (is_at nu) (arrivals e i m 0 es)) (share_of es) ≡ divided_power e i m
           (vector_of es) nu
       sum_of_arrivals =
@@ -186,6 +172,7 @@ module _ (e i m : ℕ) (he : 2 ≤ e) (nu : List ℕ) (pn : IsPartition nu) wher
           ∙ ap (λ l. sum_over l (λ s. reach e i m nu s.0 s.1)) (sym same)
           ∙ entries_sum (vector_of es) ∙ sym (power_is (vector_of es))
 
+      -- The sizes of the arrivals at nu sum up to the size that reaches nu.
       pub size_of_arrivals : sum_by (size_of es) (filter (is_at nu) (arrivals e i m 0 es)) ≡ reaching_size e i m
           (vector_of es) nu
       size_of_arrivals =

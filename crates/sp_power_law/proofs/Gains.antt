@@ -1,9 +1,9 @@
 -- What it takes for a row to gain a node of a residue.
-use Rattle.std.proofs.Common.{◌≡◌, ℕ, ◌+◌, ◌-◌, ◌<◌, ◌≤◌, Bool, true, false, ◌&&◌, nat_eq, List, length}
-use Rattle.std.proofs.Common.{refl, sym, ◌∙◌, ap, arith, ◌⊎◌, inl, inr, eqb-true, eq-eqb}
+use Rattle.std.proofs.Common.{◌≡◌, ℕ, ◌+◌, ◌-◌, ◌<◌, ◌≤◌, Bool, true, ◌&&◌, nat_eq, List, length}
+use Rattle.std.proofs.Common.{sym, ◌∙◌, ap, arith, ◌⊎◌, inl, inr, eqb-true, eq-eqb}
 use Rattle.sp_defs.specs.Partition.{part}
 use Rattle.sp_defs.specs.Node.{residue, is_addable, is_removable}
-use Rattle.sp_lists.proofs.Elements.{and_split, and_join, le_or_lt}
+use Rattle.sp_lists.proofs.Elements.{and_split, and_join, le_or_lt, same_tests}
 use Rattle.sp_shapes.proofs.Corners.{row_addable, addable_row}
 use Rattle.sp_shapes.proofs.Regular.{index_short}
 use Rattle.sp_shapes.proofs.Residues.{right_differs}
@@ -12,27 +12,26 @@ use Rattle.sp_shapes.proofs.Residues.{right_differs}
 abbrev pub addable_at : ℕ → ℕ → List ℕ → ℕ → Bool
 addable_at e i parts r = is_addable parts (r, part parts r + 1) && nat_eq (residue e (r, part parts r + 1)) i
 
+-- Can row r lose a node of residue i?
 abbrev pub removable_at : ℕ → ℕ → List ℕ → ℕ → Bool
 removable_at e i parts r = is_removable parts (r, part parts r) && nat_eq (residue e (r, part parts r)) i
 
+-- Row r is shorter than the one above it, and its next node has residue i.
 pub record Gains (e i : ℕ) (parts : List ℕ) (r : ℕ) : Type 0 where
   pub room : 1 < r → part parts r < part parts (r - 1)
   pub residue_is : residue e (r, part parts r + 1) ≡ i
 
+-- A row that can gain a node has these facts.
 pub addable_facts : (e i : ℕ) (parts : List ℕ) (r : ℕ) → addable_at e i parts r ≡ true → Gains e i parts r
 addable_facts e i parts r h =
     let p = and_split (is_addable parts (r, part parts r + 1)) (nat_eq (residue e (r, part parts r + 1)) i) h in
     record { room = addable_row parts r p.0; residue_is = eqb-true (residue e (r, part parts r + 1)) i p.1 }
 
+-- A row with these facts can gain a node.
 pub facts_addable : (e i : ℕ) (parts : List ℕ) (r : ℕ) → 1 ≤ r → Gains e i parts r → addable_at e i parts r ≡ true
 facts_addable e i parts r hr g =
     and_join (is_addable parts (r, part parts r + 1)) (nat_eq (residue e (r, part parts r + 1)) i)
     (row_addable parts r hr g.room) (eq-eqb (residue e (r, part parts r + 1)) i g.residue_is)
-
-pub same_tests : (a b : Bool) → (a ≡ true → b ≡ true) → (b ≡ true → a ≡ true) → a ≡ b
-same_tests true b f g = sym (f refl)
-same_tests false true f g = g refl
-same_tests false false f g = refl
 
 -- whether a row can gain a node is seen from it and the row above it
 pub addable_at-alike : (e i : ℕ) (xs ys : List ℕ) (r : ℕ) → 1 ≤ r → part xs r ≡ part ys r →
@@ -65,7 +64,3 @@ not_both e i parts r he a b = right_differs e r (part parts r) he
     ((addable_facts e i parts r a).residue_is
     ∙ sym (eqb-true (residue e (r, part parts r)) i
     (and_split (is_removable parts (r, part parts r)) (nat_eq (residue e (r, part parts r)) i) b).1))
-
-pub not_true : (b : Bool) → (b ≡ true → ⊥) → b ≡ false
-not_true true f = absurd (f refl)
-not_true false f = refl

@@ -40,6 +40,7 @@ module _ (e i : ℕ) (he : 2 ≤ e) (parts : List ℕ) (pp : IsPartition parts) 
       (choose e i he parts pp r k now d x hr st can))
       (grow_through n (r + 1) k now _ x (omega arith) (pass e i he parts pp r k now d x hr st))
 
+-- Down the signature of a partition each addable node can be added in its turn.
 pub can_grow : (e i : ℕ) (parts : List ℕ) → 2 ≤ e → IsPartition parts → CanGrow (signature e i parts) parts
 unfolding signature
 can_grow e i parts he pp =

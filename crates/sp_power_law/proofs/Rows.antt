@@ -4,17 +4,19 @@ use Rattle.std.proofs.Common.{nat_lt, List, [], ◌∷◌, ◌++◌, map, filter
 use Rattle.std.proofs.Common.{count_by, slice_index, ◌⊎◌, inl, inr, eq-eqb, ne_eqb}
 use Rattle.std.specs.List.{AllByRecursion, range_with_len}
 use Rattle.std.proofs.lemmas.List.Sums.{sum_by-append}
+use Rattle.std.proofs.lemmas.Bool.{and_right, false_from_ne_true}
 use Rattle.std.proofs.lemmas.Bool.Decides.{nat_tests}
+use Rattle.std.proofs.Math.Bool.{and-true, and_assoc}
 use Rattle.sp_defs.specs.Partition.{part, from_one_to}
 use Rattle.sp_defs.specs.Node.{Node, in_diagram, nodes_from, residue, is_addable, is_removable, addable, removable}
 use Rattle.sp_defs.specs.Node.{row_ends, nodes}
 use Rattle.sp_defs.specs.Power.{above}
 use Rattle.sp_defs.specs.Signature.{Addable, Removable, Mark, row_marks}
-use Rattle.sp_lists.proofs.Elements.{count_zero, range_all, all_map, all_filter, le_or_lt}
+use Rattle.sp_lists.proofs.Elements.{count_zero, range_all, all_every, all_map, all_filter, le_or_lt}
 use Rattle.sp_lists.proofs.Counts.{count-cons, count-filter, count-alike, count-map}
-use Rattle.sp_shapes.proofs.Order.{all_mono}
+use Rattle.sp_lists.proofs.Places.{all_weaken}
 use Rattle.sp_shapes.proofs.Diagram.{nodes_all, in_node, node_in}
-use Rattle.sp_power_law.proofs.Gains.{addable_at, removable_at, addable_facts, gain_near, not_true}
+use Rattle.sp_power_law.proofs.Gains.{addable_at, removable_at, addable_facts, gain_near}
 
 -- ---- the marks of a row
 
@@ -30,6 +32,7 @@ filter_two t true false x y = two_kept (t x) false x y
 filter_two t false true x y = refl
 filter_two t false false x y = refl
 
+-- A row has a mark for its removable node and one for its addable node, where they have the residue.
 pub row_marks_are : (e i : ℕ) (parts : List ℕ) (r : ℕ) →
     row_marks e i parts r ≡ cond (removable_at e i parts r) ((Removable, (r, part parts r)) ∷ []) [] ++ cond
     (addable_at e i parts r) ((Addable, (r, part parts r + 1)) ∷ []) []
@@ -59,29 +62,13 @@ above_next e i r (x ∷ xs) =
       above_next e i r xs,
     )
 
-and_assoc : (a b c : Bool) → (a && (b && c)) ≡ ((a && b) && c)
-and_assoc true b c = refl
-and_assoc false b c = refl
-
-and_true : (b : Bool) → (b && true) ≡ b
-and_true true = refl
-and_true false = refl
-
-and_false : (a b : Bool) → b ≡ false → (a && b) ≡ false
-and_false true b h = h
-and_false false b h = refl
-
-all_every : {X : Type 0} (P : X → Type 0) (xs : List X) → ((x : X) → P x) → AllByRecursion P xs
-all_every P [] f = tt
-all_every P (x ∷ xs) f = (f x, all_every P xs f)
-
 -- ---- in a range, one place at most is r
 
 elsewhere : (g : ℕ → Bool) (r a n : ℕ) → ((s : ℕ) → a ≤ s → s < a + n → s ≢ r) →
     count_by (λ s. g s && nat_eq s r) (range_with_len a n) ≡ 0
 elsewhere g r a n ne = count_zero (λ s. g s && nat_eq s r) (range_with_len a n)
     (range_all (λ s. (g s && nat_eq s r) ≡ false) a n
-    (λ s lo hi. and_false (g s) (nat_eq s r) (ne_eqb s r (ne s lo hi))))
+    (λ s lo hi. and_right (g s) (nat_eq s r) (ne_eqb s r (ne s lo hi))))
 
 here : (g : ℕ → Bool) (r a n : ℕ) → a ≤ r → r < a + n →
     count_by (λ s. g s && nat_eq s r) (range_with_len a n) ≡ cond (g r) 1 0
@@ -95,20 +82,20 @@ here g r a (suc n) lo hi = count-cons (λ s. g s && nat_eq s r) a (range_with_le
     settle later (inl le) =
         let same : a ≡ r = omega arith in
         let first : ◌≡◌ {A = ℕ} (cond (g a && nat_eq a r) 1 0) (cond (g r) 1 0) =
-        ap₂ (λ b s. cond (g s && b) 1 0) (eq-eqb a r same) same ∙ ap (λ b. cond b 1 0) (and_true (g r)) in
+        ap₂ (λ b s. cond (g s && b) 1 0) (eq-eqb a r same) same ∙ ap (λ b. cond b 1 0) (and-true (g r)) in
         let rest : count_by (λ s. g s && nat_eq s r) (range_with_len (a + 1) n) ≡ 0 =
         elsewhere g r (a + 1) n (λ s lo hi. omega arith) in
         omega (arith, first, rest)
     settle later (inr lt) =
         let first : ◌≡◌ {A = ℕ} (cond (g a && nat_eq a r) 1 0) 0 =
-        ap (λ b. cond b 1 0) (and_false (g a) (nat_eq a r) (ne_eqb a r (omega arith))) in
+        ap (λ b. cond b 1 0) (and_right (g a) (nat_eq a r) (ne_eqb a r (omega arith))) in
         omega (arith, first, later (omega arith) (omega arith))
 
 -- ---- addable nodes
 
 no_further : (e i : ℕ) (parts : List ℕ) (r : ℕ) → length parts + 1 < r → addable_at e i parts r ≡ false
 no_further e i parts r far =
-    not_true (addable_at e i parts r)
+    false_from_ne_true (addable_at e i parts r)
     (λ h. let near : r ≤ length parts + 1 = gain_near e i parts r (addable_facts e i parts r h) in omega arith)
 
 row_addable : (e i : ℕ) (parts : List ℕ) (r : ℕ) → 1 ≤ r →
@@ -121,7 +108,8 @@ row_addable e i parts r hr =
     (λ s. addable_at e i parts s && nat_eq s r) (from_one_to (length parts + 1))
     (all_every (λ s. (is_addable parts (s, part parts s + 1) && in_row e i r (s, part parts s + 1)) ≡
     (addable_at e i parts s && nat_eq s r)) (from_one_to (length parts + 1))
-    (λ s. and_assoc (is_addable parts (s, part parts s + 1)) (nat_eq (residue e (s, part parts s + 1)) i) (nat_eq s r)))
+    (λ s. sym (and_assoc (is_addable parts (s, part parts s + 1)) (nat_eq (residue e (s, part parts s + 1)) i)
+    (nat_eq s r))))
     ∙ settle (le_or_lt r (length parts + 1))
   where
     settle : (r ≤ length parts + 1) ⊎ (length parts + 1 < r) →
@@ -131,6 +119,7 @@ row_addable e i parts r hr =
     settle (inr far) = elsewhere (λ s. addable_at e i parts s) r 1 (length parts + 1) (λ s lo hi. omega arith)
         ∙ sym (ap (λ b. cond b 1 0) (no_further e i parts r far))
 
+-- The addable nodes above the next row are those above this row and the one in it.
 pub above_addable-next : (e i : ℕ) (parts : List ℕ) (r : ℕ) → 1 ≤ r →
     above e i (r + 1) (addable parts) ≡ above e i r (addable parts) + cond (addable_at e i parts r) 1 0
 above_addable-next e i parts r hr = above_next e i r (addable parts)
@@ -160,11 +149,11 @@ row_count g a (p ∷ parts) k =
         (from_one_to p) =
         count-alike (λ c. g (a, c) && nat_eq a (a + 0)) (λ c. g (a + 0, c)) (from_one_to p)
         (all_every (λ c. (g (a, c) && nat_eq a (a + 0)) ≡ g (a + 0, c)) (from_one_to p)
-        (λ c. ap₂ (λ b n. g (n, c) && b) (eq-eqb a (a + 0) (plain a)) (plain a) ∙ and_true (g (a + 0, c)))) in
+        (λ c. ap₂ (λ b n. g (n, c) && b) (eq-eqb a (a + 0) (plain a)) (plain a) ∙ and-true (g (a + 0, c)))) in
         let below : count_by (λ x. g x && nat_eq x.0 (a + 0)) (nodes_from (suc a) parts) ≡ 0 =
         count_zero (λ x. g x && nat_eq x.0 (a + 0)) (nodes_from (suc a) parts)
         (nodes_all (λ x. (g x && nat_eq x.0 (a + 0)) ≡ false) (suc a) parts
-        (λ j c lo hi. and_false (g (suc a + j, c)) (nat_eq (suc a + j) (a + 0))
+        (λ j c lo hi. and_right (g (suc a + j, c)) (nat_eq (suc a + j) (a + 0))
         (ne_eqb (suc a + j) (a + 0) (apart a j)))) in
         omega (arith, this, below)
       where
@@ -177,7 +166,7 @@ row_count g a (p ∷ parts) k =
         let this : count_by (λ c. g (a, c) && nat_eq a (a + suc k)) (from_one_to p) ≡ 0 =
         count_zero (λ c. g (a, c) && nat_eq a (a + suc k)) (from_one_to p)
         (all_every (λ c. (g (a, c) && nat_eq a (a + suc k)) ≡ false) (from_one_to p)
-        (λ c. and_false (g (a, c)) (nat_eq a (a + suc k)) (ne_eqb a (a + suc k) (apart a k)))) in
+        (λ c. and_right (g (a, c)) (nat_eq a (a + suc k)) (ne_eqb a (a + suc k) (apart a k)))) in
         let below : count_by (λ x. g x && nat_eq x.0 (a + suc k)) (nodes_from (suc a) parts) ≡ count_by
         (λ c. g (a + suc k, c)) (from_one_to (slice_index parts k)) =
         subst (λ n. count_by (λ x. g x && nat_eq x.0 n) (nodes_from (suc a) parts) ≡ count_by (λ c. g (n, c))
@@ -217,7 +206,7 @@ row_removable e i parts r hr =
     (λ x. (is_removable parts x && nat_eq (residue e x) i) && nat_eq x.0 r) (nodes parts)
     (all_every (λ x. (is_removable parts x && in_row e i r x) ≡
     ((is_removable parts x && nat_eq (residue e x) i) && nat_eq x.0 r)) (nodes parts)
-    (λ x. and_assoc (is_removable parts x) (nat_eq (residue e x) i) (nat_eq x.0 r)))
+    (λ x. sym (and_assoc (is_removable parts x) (nat_eq (residue e x) i) (nat_eq x.0 r))))
     ∙ subst (λ n. count_by (λ x. (is_removable parts x && nat_eq (residue e x) i) && nat_eq x.0 n)
     (nodes parts) ≡ count_by (λ c. is_removable parts (n, c) && nat_eq (residue e (n, c)) i)
     (from_one_to (part parts r))) (back (r - 1) hr)
@@ -231,7 +220,7 @@ row_removable e i parts r hr =
     inner c lo hi =
         ap (λ b. (in_diagram parts (r, c) && (not b && not (in_diagram parts (r + 1, c)))) && nat_eq
         (residue e (r, c)) i) (in_node parts r (c + 1) hr (omega arith) (omega arith))
-        ∙ ap (λ b. b && nat_eq (residue e (r, c)) i) (and_false (in_diagram parts (r, c)) false refl)
+        ∙ ap (λ b. b && nat_eq (residue e (r, c)) i) (and_right (in_diagram parts (r, c)) false refl)
 
     by_length : (p : ℕ) → part parts r ≡ p →
         count_by (λ c. is_removable parts (r, c) && nat_eq (residue e (r, c)) i) (from_one_to p) ≡ cond
@@ -244,7 +233,7 @@ row_removable e i parts r hr =
         none = ap (λ b. b && (not (in_diagram parts (r, 0 + 1)) && not (in_diagram parts (r + 1, 0)))) outside
           where
             outside : in_diagram parts (r, 0) ≡ false
-            outside = not_true (in_diagram parts (r, 0)) (λ h. let v = node_in parts r 0 h in omega (arith, v.column))
+            outside = false_from_ne_true (in_diagram parts (r, 0)) (λ h. let v = node_in parts r 0 h in omega (arith, v.column))
     by_length (suc p) is =
         count_last (λ c. is_removable parts (r, c) && nat_eq (residue e (r, c)) i) 1 p
         (λ c lo hi. inner c lo (omega arith))
@@ -253,6 +242,7 @@ row_removable e i parts r hr =
         one_more : (p : ℕ) → 1 + p ≡ suc p
         one_more p = omega arith
 
+-- The removable nodes above the next row are those above this row and the one in it.
 pub above_removable-next : (e i : ℕ) (parts : List ℕ) (r : ℕ) → 1 ≤ r →
     above e i (r + 1) (removable parts) ≡ above e i r (removable parts) + cond (removable_at e i parts r) 1 0
 above_removable-next e i parts r hr = above_next e i r (removable parts)
@@ -262,18 +252,20 @@ above_removable-next e i parts r hr = above_next e i r (removable parts)
 
 none_above : (e i : ℕ) (xs : List Node) → AllByRecursion (λ x. 1 ≤ x.0) xs → above e i 1 xs ≡ 0
 none_above e i xs h = count_zero (λ x. nat_eq (residue e x) i && nat_lt x.0 1) xs
-    (all_mono (λ x. 1 ≤ x.0) (λ x. (nat_eq (residue e x) i && nat_lt x.0 1) ≡ false) xs
-    (λ x lo. and_false (nat_eq (residue e x) i) (nat_lt x.0 1) (not_less x.0 lo)) h)
+    (all_weaken (λ x. 1 ≤ x.0) (λ x. (nat_eq (residue e x) i && nat_lt x.0 1) ≡ false) xs
+    (λ x lo. and_right (nat_eq (residue e x) i) (nat_lt x.0 1) (not_less x.0 lo)) h)
   where
     not_less : (n : ℕ) → 1 ≤ n → nat_lt n 1 ≡ false
     not_less n h = grind (arith, nat_tests)
 
+-- No addable node is above the first row.
 pub above_addable-first : (e i : ℕ) (parts : List ℕ) → above e i 1 (addable parts) ≡ 0
 above_addable-first e i parts = none_above e i (addable parts)
     (all_filter (λ x. 1 ≤ x.0) (is_addable parts) (row_ends parts)
     (all_map (λ x. is_addable parts x ≡ true → 1 ≤ x.0) (λ s. (s, part parts s + 1)) (from_one_to (length parts + 1))
     (range_all (λ s. is_addable parts (s, part parts s + 1) ≡ true → 1 ≤ s) 1 (length parts + 1) (λ s lo hi _. lo))))
 
+-- No removable node is above the first row.
 pub above_removable-first : (e i : ℕ) (parts : List ℕ) → above e i 1 (removable parts) ≡ 0
 above_removable-first e i parts = none_above e i (removable parts)
     (all_filter (λ x. 1 ≤ x.0) (is_removable parts) (nodes parts)

@@ -7,8 +7,9 @@ use Rattle.std.specs.declared.cmp.Ordering.{Ordering}
 use Rattle.std.specs.declared.cmp.Ordering.TheVariants.{Less, Equal, Greater}
 use Rattle.std.proofs.lemmas.Cmp.{nat_list_cmp_total}
 use Rattle.sp_defs.specs.Partition.{compare, Ascending, IsEarlier}
-use Rattle.sp_lists.proofs.Elements.{all_both}
-use Rattle.sp_shapes.proofs.Order.{all_mono, equal_self, same_lists, less_trans, later_than}
+use Rattle.sp_lists.proofs.Elements.{all_both, all_map, map_all}
+use Rattle.sp_lists.proofs.Places.{all_weaken}
+use Rattle.sp_shapes.proofs.Order.{equal_self, same_lists, less_trans, later_than}
 use Rattle.sp_shapes.proofs.Listing.{Occurs}
 use Rattle.sp_power_law.specs.Runs.{Arrival, Run, is_at, joined, runs}
 
@@ -17,21 +18,20 @@ abbrev pub InOrder : List Arrival → Type 0
 InOrder [] = Unit {0}
 InOrder (t ∷ ts) = AllByRecursion (λ u. is_lt (compare u.0 t.0) ≡ false) ts × InOrder ts
 
+-- The partitions of runs.
 abbrev pub heads : List Run → List (List ℕ)
 heads rs = map (λ run. run.0) rs
 
 -- ---- what is not earlier is the same or later
 
-pub earlier_than : (x y : List ℕ) → compare x y ≡ Greater → IsEarlier y x
-earlier_than x y h = nat_list_cmp_total.antisymm y x ∙ ap ordering_reverse h
-
+-- What is not earlier is the same or later.
 pub same_or_later : (x y : List ℕ) → is_lt (compare y x) ≡ false → (x ≡ y) ⊎ IsEarlier x y
 same_or_later x y h = by_order (compare y x) refl
   where
     by_order : (o : Ordering) → compare y x ≡ o → (x ≡ y) ⊎ IsEarlier x y
     by_order Less is = absurd (true≢false (sym (ap is_lt is) ∙ h))
     by_order Equal is = inl (sym (same_lists y x is))
-    by_order Greater is = inr (earlier_than y x is)
+    by_order Greater is = inr (nat_list_cmp_total.antisymm x y ∙ ap ordering_reverse is)
 
 not_at : (nu : List ℕ) (ts : List Arrival) → AllByRecursion (λ t. IsEarlier nu t.0) ts → filter (is_at nu) ts ≡ []
 not_at nu [] h = refl
@@ -40,6 +40,7 @@ not_at nu (t ∷ ts) (h, hs) =
 
 -- ---- the first run has the first partition
 
+-- The first run is of the partition of t.
 pub record Begins (t : Arrival) (rs : List Run) : Type 0 where
   pub run : Run
   pub others : List Run
@@ -56,6 +57,7 @@ joined-begins t (run ∷ rs) = by_order (compare t.0 run.0) refl
     by_order Equal is = record { run = (run.0, t ∷ run.1); others = rs; is = refl; at = sym (same_lists t.0 run.0 is) }
     by_order Greater is = record { run = (t.0, t ∷ []); others = run ∷ rs; is = refl; at = refl }
 
+-- The first run of a list is of the partition of its first arrival.
 pub runs-begin : (t : Arrival) (ts : List Arrival) → Begins t (runs (t ∷ ts))
 unfolding runs
 runs-begin t ts = joined-begins t (runs ts)
@@ -72,6 +74,7 @@ joined-heads P t (run ∷ rs) h (hr, hs) =
       | false ↦ (h, (hr, hs))
     ]
 
+-- What holds of all partitions of the list holds of those of its runs.
 pub runs-heads : (P : List ℕ → Type 0) (ts : List Arrival) → AllByRecursion (λ t. P t.0) ts →
     AllByRecursion (λ run. P run.0) (runs ts)
 unfolding runs
@@ -80,6 +83,7 @@ runs-heads P (t ∷ ts) (h, hs) = joined-heads P t (runs ts) h (runs-heads P ts 
 
 -- ---- the runs of a list in order
 
+-- The partitions of the runs ascend, and each run has just the arrivals at its partition.
 pub record AreRuns (ts : List Arrival) (rs : List Run) : Type 0 where
   pub ascending : Ascending (heads rs)
   pub exact : AllByRecursion (λ run. run.1 ≡ filter (is_at run.0) ts) rs
@@ -94,7 +98,7 @@ kept_runs : (t : Arrival) (ts : List Arrival) (rs : List Run) → AllByRecursion
     AllByRecursion (λ run. run.1 ≡ filter (is_at run.0) ts) rs →
     AllByRecursion (λ run. run.1 ≡ filter (is_at run.0) (t ∷ ts)) rs
 kept_runs t ts rs early is =
-    all_mono (λ run. IsEarlier t.0 run.0 × (run.1 ≡ filter (is_at run.0) ts))
+    all_weaken (λ run. IsEarlier t.0 run.0 × (run.1 ≡ filter (is_at run.0) ts))
     (λ run. run.1 ≡ filter (is_at run.0) (t ∷ ts)) rs
     (λ run h. kept_run t ts run h.0 h.1)
     (all_both (λ run. IsEarlier t.0 run.0) (λ run. run.1 ≡ filter (is_at run.0) ts) rs early is)
@@ -104,14 +108,6 @@ taken : (t : Arrival) (nu : List ℕ) (ts : List Arrival) → t.0 ≡ nu →
 taken t nu ts same =
     ap (λ o. cond (is_eq o) (t ∷ filter (is_at nu) ts) (filter (is_at nu) ts))
     (sym (subst (λ l. compare l nu ≡ Equal) (sym same) (equal_self nu)))
-
-from_heads : (P : List ℕ → Type 0) (rs : List Run) → AllByRecursion P (heads rs) → AllByRecursion (λ run. P run.0) rs
-from_heads P [] h = tt
-from_heads P (run ∷ rs) (h, hs) = (h, from_heads P rs hs)
-
-to_heads : (P : List ℕ → Type 0) (rs : List Run) → AllByRecursion (λ run. P run.0) rs → AllByRecursion P (heads rs)
-to_heads P [] h = tt
-to_heads P (run ∷ rs) (h, hs) = (h, to_heads P rs hs)
 
 -- One more arrival, at the partition of the first run or before it; u is the first of the others.
 one_more : (t u : Arrival) (ts : List Arrival) (run : Run) (rs : List Run) → InOrder (t ∷ u ∷ ts) → run.0 ≡ u.0 →
@@ -126,14 +122,14 @@ one_more t u ts run rs ((after, _), (later, _)) at h = by_order (compare t.0 run
         ap (λ l. t ∷ l) h.exact.0 ∙ taken t run.0 (u ∷ ts) same,
         kept_runs t (u ∷ ts) rs
             (subst (λ l. AllByRecursion (λ run. IsEarlier l run.0) rs) (sym same)
-            (from_heads (IsEarlier run.0) rs h.ascending.0)) h.exact.1,
+            (map_all (IsEarlier run.0) (λ r. r.0) rs h.ascending.0)) h.exact.1,
       );
     }
       where
         same : t.0 ≡ run.0
         same = same_lists t.0 run.0 is
     by_order Less is = record {
-      ascending = ((is, to_heads (IsEarlier t.0) rs early_others), h.ascending);
+      ascending = ((is, all_map (IsEarlier t.0) (λ r. r.0) rs early_others), h.ascending);
       exact = (
         ap (λ l. t ∷ l) (sym (not_at t.0 (u ∷ ts) (early_u, early_rest))) ∙ taken t t.0 (u ∷ ts) refl,
         kept_runs t (u ∷ ts) (run ∷ rs) (is, early_others) h.exact,
@@ -142,14 +138,14 @@ one_more t u ts run rs ((after, _), (later, _)) at h = by_order (compare t.0 run
       where
         early_others : AllByRecursion (λ run. IsEarlier t.0 run.0) rs
         early_others =
-            all_mono (λ r. IsEarlier run.0 r.0) (λ r. IsEarlier t.0 r.0) rs (λ r e. less_trans t.0 run.0 r.0 is e)
-            (from_heads (IsEarlier run.0) rs h.ascending.0)
+            all_weaken (λ r. IsEarlier run.0 r.0) (λ r. IsEarlier t.0 r.0) rs (λ r e. less_trans t.0 run.0 r.0 is e)
+            (map_all (IsEarlier run.0) (λ r. r.0) rs h.ascending.0)
 
         early_u : IsEarlier t.0 u.0
         early_u = subst (λ l. IsEarlier t.0 l) at is
 
         early_rest : AllByRecursion (λ v. IsEarlier t.0 v.0) ts
-        early_rest = all_mono (λ v. is_lt (compare v.0 u.0) ≡ false) (λ v. IsEarlier t.0 v.0) ts
+        early_rest = all_weaken (λ v. is_lt (compare v.0 u.0) ≡ false) (λ v. IsEarlier t.0 v.0) ts
             (λ v e. further v (same_or_later u.0 v.0 e)) later
           where
             further : (v : Arrival) → (u.0 ≡ v.0) ⊎ IsEarlier u.0 v.0 → IsEarlier t.0 v.0
@@ -162,6 +158,7 @@ one_more t u ts run rs ((after, _), (later, _)) at h = by_order (compare t.0 run
             ∙ subst (λ l. compare t.0 l ≡ Equal) (same ∙ sym at) (equal_self t.0) in cc
         clash (inr e) = let k : Greater ≡ Less = sym is ∙ subst (λ l. compare t.0 l ≡ Less) (sym at) e in cc
 
+-- The runs of a list in order are this.
 pub runs-are : (ts : List Arrival) → InOrder ts → AreRuns ts (runs ts)
 unfolding runs
 runs-are [] h = record { ascending = tt; exact = tt }
@@ -182,6 +179,7 @@ joined-occurs nu t (run ∷ rs) h =
       | false ↦ inr h
     ]
 
+-- A partition has a run, or no arrival.
 pub has_run : (nu : List ℕ) (ts : List Arrival) → Occurs nu (heads (runs ts)) ⊎ (filter (is_at nu) ts ≡ [])
 unfolding runs
 has_run nu [] = inr refl

@@ -10,9 +10,12 @@ use Rattle.sp_defs.specs.Laurent.{Laurent, one, power, times, size}
 use Rattle.sp_defs.specs.Power.{Vector, unit, is_move, exponent, sources}
 use Rattle.sp_defs.specs.Power.{divided_power, reaching_size, induction_weight}
 use Rattle.sp_lists.proofs.Elements.{all_filter}
+use Rattle.sp_lists.proofs.Maps.{map-alike}
+use Rattle.sp_lists.proofs.Places.{all_weaken}
+use Rattle.sp_lists.proofs.Sums.{sum-alike}
 use Rattle.sp_lists.proofs.Greatest.{greatest_within, map_within}
 use Rattle.sp_algebra.proofs.Sums.{sum_over-alike}
-use Rattle.sp_shapes.proofs.Order.{all_mono, same_lists}
+use Rattle.sp_shapes.proofs.Order.{same_lists}
 use Rattle.sp_shapes.proofs.Listing.{all_partitions, partitions_ascend, Ascending-filter}
 
 -- A source of a partition of n + m is a partition of n from which the move leads there.
@@ -20,54 +23,49 @@ pub record IsSource (e i m n : ℕ) (after before : List ℕ) : Type 0 where
   pub partition : IsPartitionOf n before
   pub move : is_move e i m before after ≡ true
 
+-- Each source of a partition of n + m is a partition of n from which the move leads there.
 pub all_sources : (e i m n : ℕ) (after : List ℕ) → degree after ≡ n + m →
     AllByRecursion (IsSource e i m n after) (sources e i m after)
 unfolding sources
 all_sources e i m n after total =
     let same : degree after - m ≡ n = omega (arith, total) in
     all_filter (IsSource e i m n after) (λ before. is_move e i m before after) (partitions (degree after - m))
-    (all_mono (IsPartitionOf n) (λ x. is_move e i m x after ≡ true → IsSource e i m n after x)
+    (all_weaken (IsPartitionOf n) (λ x. is_move e i m x after ≡ true → IsSource e i m n after x)
     (partitions (degree after - m))
     (λ x h t. record { partition = h; move = t })
     (subst (λ k. AllByRecursion (IsPartitionOf n) (partitions k)) (sym same) (all_partitions n)))
 
 -- ---- vectors that agree at the partitions of n
 
+-- Vectors that agree at the partitions of n have the same divided power.
 pub divided_power-alike : (e i m n : ℕ) (v w : Vector) →
     ((lambda : List ℕ) → IsPartitionOf n lambda → v lambda ≡ w lambda) →
     (after : List ℕ) → degree after ≡ n + m → divided_power e i m v after ≡ divided_power e i m w after
 unfolding divided_power
 divided_power-alike e i m n v w same after total =
     sum_over-alike (sources e i m after) (term v) (term w)
-    (all_mono (IsSource e i m n after) (λ x. term v x ≡ term w x) (sources e i m after)
+    (all_weaken (IsSource e i m n after) (λ x. term v x ≡ term w x) (sources e i m after)
     (λ x h. ap (times (power (exponent e i x after))) (same x h.partition)) (all_sources e i m n after total))
   where
     term : Vector → List ℕ → Laurent
     term u before = times (power (exponent e i before after)) (u before)
 
-map-alike : {X Y : Type 0} (f g : X → Y) (xs : List X) → AllByRecursion (λ x. f x ≡ g x) xs → map f xs ≡ map g xs
-map-alike f g [] h = refl
-map-alike f g (x ∷ xs) (h, hs) = ap₂ (λ a b. a ∷ b) h (map-alike f g xs hs)
-
-sum_by-alike : {X : Type 0} (f g : X → ℕ) (xs : List X) → AllByRecursion (λ x. f x ≡ g x) xs → sum_by f xs ≡ sum_by g xs
-sum_by-alike f g [] h = refl
-sum_by-alike f g (x ∷ xs) (h, hs) =
-    sum_by-cons f x xs ∙ ap₂ (λ a b. a + b) h (sum_by-alike f g xs hs) ∙ sym (sum_by-cons g x xs)
-
+-- The sizes that reach a partition are the same too.
 pub reaching_size-alike : (e i m n : ℕ) (v w : Vector) →
     ((lambda : List ℕ) → IsPartitionOf n lambda → v lambda ≡ w lambda) →
     (after : List ℕ) → degree after ≡ n + m → reaching_size e i m v after ≡ reaching_size e i m w after
 reaching_size-alike e i m n v w same after total =
-    sum_by-alike (λ x. size (v x)) (λ x. size (w x)) (sources e i m after)
-    (all_mono (IsSource e i m n after) (λ x. size (v x) ≡ size (w x)) (sources e i m after)
+    sum-alike (λ x. size (v x)) (λ x. size (w x)) (sources e i m after)
+    (all_weaken (IsSource e i m n after) (λ x. size (v x) ≡ size (w x)) (sources e i m after)
     (λ x h. ap size (same x h.partition)) (all_sources e i m n after total))
 
+-- And so is the weight of the induction.
 pub induction_weight-alike : (e i m n : ℕ) (v w : Vector) →
     ((lambda : List ℕ) → IsPartitionOf n lambda → v lambda ≡ w lambda) →
     induction_weight e i m n v ≡ induction_weight e i m n w
 induction_weight-alike e i m n v w same =
     ap (fold max 0) (map-alike (reaching_size e i m v) (reaching_size e i m w) (partitions (n + m))
-    (all_mono (IsPartitionOf (n + m)) (λ x. reaching_size e i m v x ≡ reaching_size e i m w x) (partitions (n + m))
+    (all_weaken (IsPartitionOf (n + m)) (λ x. reaching_size e i m v x ≡ reaching_size e i m w x) (partitions (n + m))
     (λ x h. reaching_size-alike e i m n v w same x h.total) (all_partitions (n + m))))
 
 -- ---- one partition

@@ -5,19 +5,21 @@ use Rattle.std.proofs.Common.{◌++◌, map, filter, length, refl, sym, ◌∙�
 use Rattle.std.proofs.Common.{inr, ℤ, pos, ◌+ℤ◌, ◌-ℤ◌, true≢false}
 use Rattle.std.proofs.lemmas.Int.{ints}
 use Rattle.std.specs.List.{AllByRecursion}
+use Rattle.std.proofs.lemmas.Bool.{false_from_ne_true}
+use Rattle.std.proofs.lemmas.List.{map-append, nil_from_length}
 use Rattle.sp_defs.specs.Partition.{part, degree, IsPartition}
 use Rattle.sp_defs.specs.Node.{Node, in_diagram, nodes, residue, addable, removable}
 use Rattle.sp_defs.specs.Laurent.{int_sum}
 use Rattle.sp_defs.specs.Power.{added, above, exponent}
 use Rattle.sp_defs.specs.Signature.{grow}
-use Rattle.sp_lists.proofs.Elements.{le_or_lt, filter_append, all_left, all_right}
+use Rattle.sp_lists.proofs.Elements.{le_or_lt, filter_append, all_left, all_right, same_tests}
 use Rattle.sp_shapes.proofs.Diagram.{all_nodes, in_node}
 use Rattle.sp_shapes.proofs.Grow.{Room, grow_other, grow_same, degree-grow, IsPartition-grow, OneMore, nodes-grow}
 use Rattle.sp_shapes.proofs.Moves.{Move, degree_added, out_node}
 use Rattle.sp_shapes.proofs.Regular.{index_short}
 use Rattle.sp_shapes.proofs.Residues.{right_differs, below_differs}
-use Rattle.sp_power_law.proofs.Gains.{addable_at, removable_at, Gains, addable_facts, facts_addable, same_tests}
-use Rattle.sp_power_law.proofs.Gains.{addable_at-alike, not_both, not_true}
+use Rattle.sp_power_law.proofs.Gains.{addable_at, removable_at, Gains, addable_facts, facts_addable}
+use Rattle.sp_power_law.proofs.Gains.{addable_at-alike, not_both}
 use Rattle.sp_power_law.proofs.Rows.{above_addable-next, above_removable-next, above_addable-first}
 use Rattle.sp_power_law.proofs.Rows.{above_removable-first}
 
@@ -31,14 +33,11 @@ pub record Before (e i : ℕ) (parts : List ℕ) (r k : ℕ) (now : List ℕ) (d
 
 -- ---- the start
 
-no_elements : {X : Type 0} (xs : List X) → length xs ≡ 0 → xs ≡ []
-no_elements [] h = refl
-no_elements (x ∷ xs) h = absurd (omega arith)
-
 none_added : (parts : List ℕ) → IsPartition parts → length (added parts parts) ≡ 0
 none_added parts pp = let d : degree parts ≡ degree parts + length (added parts parts) =
     degree_added parts parts pp (λ k. omega arith) in omega (arith, d)
 
+-- Before the first row no node is chosen.
 pub start : (e i : ℕ) (parts : List ℕ) → IsPartition parts → Before e i parts 1 0 parts (pos 0) (pos 0)
 unfolding exponent int_sum
 start e i parts pp = record {
@@ -53,7 +52,7 @@ start e i parts pp = record {
   difference_is = sym (ap₂ (λ m n. pos m -ℤ pos n) (above_addable-first e i parts) (above_removable-first e i parts));
   sum_is = sym (ap
       (λ xs. int_sum (map (λ x. pos (above e i x.0 (addable parts)) -ℤ pos (above e i x.0 (removable parts))) xs))
-      (no_elements (added parts parts) (none_added parts pp)));
+      (nil_from_length (added parts parts) (none_added parts pp)));
 }
 
 -- ---- two partitions that agree above a row have the same addable nodes there
@@ -88,10 +87,6 @@ int_sum-append : (xs ys : List ℤ) → int_sum (xs ++ ys) ≡ int_sum xs +ℤ i
 unfolding int_sum
 int_sum-append [] ys = omega (arith, ints)
 int_sum-append (x ∷ xs) ys = omega (arith, ints, int_sum-append xs ys)
-
-pub map-append : {X Y : Type 0} (f : X → Y) (xs ys : List X) → map f (xs ++ ys) ≡ map f xs ++ map f ys
-map-append f [] ys = refl
-map-append f (x ∷ xs) ys = ap (λ l. f x ∷ l) (map-append f xs ys)
 
 kept_sum : (t : Node → Bool) (f : Node → ℤ) (xs ys : List Node) →
     int_sum (map f (filter t (xs ++ ys))) ≡ int_sum (map f (filter t xs)) +ℤ int_sum (map f (filter t ys))
@@ -175,6 +170,7 @@ module _ (e i : ℕ) (he : 2 ≤ e) (parts : List ℕ) (pp : IsPartition parts) 
               above_it = st.move.residues (r - 1) (part parts r + 1) (omega arith) (omega arith)
                   (omega (arith, g.room more, here)) (omega arith)
 
+  -- A row is passed: the difference goes up by its addable node and down by its removable one.
   pub pass : (r k : ℕ) (now : List ℕ) (d x : ℤ) → 1 ≤ r → Before e i parts r k now d x →
       Before e i parts (r + 1) k now
       ((d +ℤ pos (cond (addable_at e i parts r) 1 0)) -ℤ pos (cond (removable_at e i parts r) 1 0)) x
@@ -211,9 +207,11 @@ module _ (e i : ℕ) (he : 2 ≤ e) (parts : List ℕ) (pp : IsPartition parts) 
         near (inr more) = let short : r - 1 - 1 < length now =
             index_short now (r - 1 - 1) (omega (arith, gains.room more)) in omega arith
 
+    -- The row of the chosen node has one node more.
     pub grown_here : part (grow (r - 1) now) r ≡ part now r + 1
     grown_here = grow_same now (r - 1) room.there
 
+    -- All other rows are as they were.
     pub grown_elsewhere : (s : ℕ) → 1 ≤ s → s ≢ r → part (grow (r - 1) now) s ≡ part now s
     grown_elsewhere s hs ne = grow_other now (r - 1) (s - 1) (λ same. ne (omega arith))
 
@@ -272,7 +270,7 @@ module _ (e i : ℕ) (he : 2 ≤ e) (parts : List ℕ) (pp : IsPartition parts) 
         above_addable-alike e i (grow (r - 1) now) now s hs (λ t lo hi. grown_elsewhere t lo (λ same. omega arith))
 
     none_here : addable_at e i (grow (r - 1) now) r ≡ false
-    none_here = not_true (addable_at e i (grow (r - 1) now) r)
+    none_here = false_from_ne_true (addable_at e i (grow (r - 1) now) r)
         (λ a. right_differs e r (part now r + 1) he
         (ap (λ p. residue e (r, p + 1)) (sym grown_here) ∙ (addable_facts e i (grow (r - 1) now) r a).residue_is
         ∙ sym gains.residue_is))
@@ -286,7 +284,7 @@ module _ (e i : ℕ) (he : 2 ≤ e) (parts : List ℕ) (pp : IsPartition parts) 
         ∙ nothing (above e i r (addable now))))
         (sym (above_removable-next e i parts r hr
         ∙ ap (λ b. above e i r (removable parts) + cond b 1 0)
-        (not_true (removable_at e i parts r) (not_both e i parts r he can))
+        (false_from_ne_true (removable_at e i parts r) (not_both e i parts r he can))
         ∙ nothing (above e i r (removable parts))))
       where
         nothing : (n : ℕ) → n + 0 ≡ n
@@ -328,6 +326,7 @@ module _ (e i : ℕ) (he : 2 ≤ e) (parts : List ℕ) (pp : IsPartition parts) 
                 absurd (true≢false
                 (sym out ∙ ap not (in_node parts s c hs hc (omega (arith, st.later s (omega arith))))))
 
+    -- The node of a row is chosen: the difference goes onto the sum.
     pub choose : Before e i parts (r + 1) (k + 1) (grow (r - 1) now) d (x +ℤ d)
     choose = record {
       partition = grown_partition;

@@ -16,13 +16,15 @@ unfoldable pub arrivals : ℕ → ℕ → ℕ → ℕ → Entries → List Arriv
 arrivals e i m place [] = []
 arrivals e i m place (entry ∷ es) = map (λ t. (t.0, place, t.1)) (moves e i m entry.0) ++ arrivals e i m (place + 1) es
 
--- What an arrival adds at its partition, and the size of the polynomial that it comes from.
+-- The polynomial of the entry at a place, or 0.
 abbrev pub polynomial_at : Entries → ℕ → Laurent
 polynomial_at es place = (slice_index_or es place ([], [])).1
 
+-- What an arrival adds at its partition: the polynomial of its entry, times the power of its exponent.
 abbrev pub share_of : Entries → Arrival → Laurent
 share_of es t = times (power t.2) (polynomial_at es t.1)
 
+-- The size of the polynomial that an arrival comes from.
 abbrev pub size_of : Entries → Arrival → ℕ
 size_of es t = size (polynomial_at es t.1)
 
@@ -39,6 +41,7 @@ abbrev pub joined : Arrival → List Run → List Run
 joined t [] = (t.0, t ∷ []) ∷ []
 joined t (run ∷ runs) = cond (is_eq (compare t.0 run.0)) ((run.0, t ∷ run.1) ∷ runs) ((t.0, t ∷ []) ∷ run ∷ runs)
 
+-- The arrivals one after the other, those of one partition side by side in one run.
 unfoldable pub runs : List Arrival → List Run
 runs [] = []
 runs (t ∷ ts) = joined t (runs ts)
@@ -47,5 +50,6 @@ runs (t ∷ ts) = joined t (runs ts)
 abbrev pub sums_of : Entries → List Run → Entries
 sums_of es rs = filter (λ t. nat_lt 0 (length t.1)) (map (λ run. (run.0, sum_over run.1 (share_of es))) rs)
 
+-- The sum of the sizes of each run.
 abbrev pub sizes_of : Entries → List Run → List ℕ
 sizes_of es rs = map (λ run. sum_by (size_of es) run.1) rs

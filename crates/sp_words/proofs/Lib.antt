@@ -1,1 +1,5 @@
-pub mod Fronts
+pub mod Clap
+pub mod Making
+pub mod Parses
+pub mod Saying
+pub mod Turns

@@ -1,1 +1,4 @@
+pub mod Found
+pub mod Generated
 pub mod Options
+pub mod Words

@@ -1,25 +1,21 @@
 // The value of an option.
-ghost use Rattle.std.specs.Prelude.{◌≡◌, ◌≤◌, ◌<◌, ◌^◌, IfSome};
-ghost use Rattle.std.specs.Str.Parse.{digits_value};
-ghost use Rattle.std.specs.Option.{SomeIff};
-ghost use Rattle.sp_words.specs.Options.{IsLimit};
+ghost use Rattle.std.specs.Prelude.{◌≡◌, ◌≤◌, ◌<◌, ◌^◌, ℕ, MatchOption};
+ghost use Rattle.sp_words.specs.Words.{IsNumberWithin};
 
-use crate::words::GREATEST_LIMIT;
-
-/// The limit that a text names: digits without a zero in front, at most the greatest limit.
-pub(crate) fn read_limit(text: &str) -> Option<u128>
-    ensures limit { SomeIff result (IsLimit text.now) (digits_value 10 text.now) }
-    ensures least { IfSome result (λ limit. 1 ≤ limit) }
-    ensures most { IfSome result (λ limit. limit < 2 ^ 127) }
+/// The number that a text names, if it is one in this range.
+pub(crate) fn read_number(text: &str, least: u128, most: u128) -> Option<u128>
+    ensures { MatchOption result
+        ((n : ℕ) → ¬ IsNumberWithin least most text.now n)
+        (λ n. IsNumberWithin least most text.now n) }
 {
     let first = text.as_bytes().first()?;
     // `parse` reads a plus and zeros in front, too.
-    if *first < b'1' {
+    if *first < b'0' || *first == b'0' && text.len() > 1 {
         return None;
     }
-    let limit = text.parse::<u128>().ok()?;
-    if 1 <= limit && limit <= GREATEST_LIMIT {
-        Some(limit)
+    let number = text.parse::<u128>().ok()?;
+    if least <= number && number <= most {
+        Some(number)
     } else {
         None
     }

@@ -2,7 +2,7 @@ use Rattle.std.proofs.Common.{◌∙◌, ap, nat_eq}
 use Rattle.std.specs.Cmp.Lexicographic.{pointwise}
 use Rattle.std.specs.List.{position}
 use Rattle.std.specs.Option.{unwrap_or}
-use Rattle.sp_dims.proofs.Rows.{found_place}
+use Rattle.sp_module_defs.proofs.Places.{found_place}
 use Rattle.sp_dims.proofs.simple.line_of.Goals as goal
 
 pub returns-clause-place : goal.returns-clause-place

@@ -9,7 +9,7 @@ pub returns-clause-some : goal.returns-clause-some
 returns-clause-some c =
     subst (λ v. IfSome c.solve.result (λ dim. dim ≡ v))
     (ap₂ (λ n row. pos n -ℤ slope_at_one (products_of row c.args.known.now)) c.specht_dim.ensures.value
-    (c.row.ensures.value ∙ ap (row_of c.args.grid.now) c.line_of.ensures.place)
+    (ap (row_of c.args.grid.now) c.line_of.ensures.place)
     ∙ next_by_row c.args.grid.now c.args.column.now c.args.known.now c.line_of.ensures.grid c.requires.line)
     c.solve.ensures.some
 
@@ -17,6 +17,6 @@ pub returns-clause-none : goal.returns-clause-none
 returns-clause-none c =
     subst (λ w. IsNone c.solve.result ↔ (c.args.limit < w))
     (ap₂ (λ n row. n + products_weight row c.args.known.now) c.specht_dim.ensures.value
-    (c.row.ensures.value ∙ ap (row_of c.args.grid.now) c.line_of.ensures.place)
+    (ap (row_of c.args.grid.now) c.line_of.ensures.place)
     ∙ weight_by_row c.args.grid.now c.args.column.now c.args.known.now c.line_of.ensures.grid c.requires.line)
     c.solve.ensures.none

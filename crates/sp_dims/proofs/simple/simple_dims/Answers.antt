@@ -7,17 +7,17 @@ use Rattle.sp_defs.specs.Laurent.{one}
 use Rattle.sp_lists.proofs.Elements.{le_or_lt}
 use Rattle.sp_lists.proofs.Places.{all_at}
 use Rattle.sp_fock_law.specs.Grid.{GridValue, IsGrid}
-use Rattle.sp_dims.specs.Cells.{cell_at}
+use Rattle.sp_module_defs.specs.Cells.{IsSquareUnitriangular, cell_at}
 use Rattle.sp_dims.specs.Equation.{next_dim, known_weight}
-use Rattle.sp_dims.specs.Solution.{IsUnitriangular, IsSolution, IsPast, first_past}
+use Rattle.sp_dims.specs.Solution.{IsSolution, IsPast, first_past}
 use Rattle.sp_dims.proofs.Solving.{solved, past, solution, upper, past-first_past}
-use Rattle.sp_dims.proofs.Rows.{descends, column_is_line}
+use Rattle.sp_module_defs.proofs.Places.{descends, column_is_line}
 use Rattle.sp_dims.proofs.Walk.{zip-none, solved_step, past_step, past_here, solved_done, past_done}
 use Rattle.sp_dims.proofs.simple.simple_dims.Goals as goal
 
 -- ---- over any grid
 
-the_solution : (g : GridValue) → IsGrid g → IsUnitriangular g.columns (cell_at g) →
+the_solution : (g : GridValue) → IsGrid g → IsSquareUnitriangular g.columns (cell_at g) →
     IsSolution g.columns (cell_at g) (solved (cell_at g) [] g.columns)
 the_solution g h u =
     solution (cell_at g) g.columns (upper (cell_at g) g.columns (descends g.columns h.columns.descending) u)

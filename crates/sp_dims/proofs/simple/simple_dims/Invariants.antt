@@ -1,6 +1,6 @@
 use Rattle.std.proofs.Common.{◌≡◌, ◌++◌, [], drop, length}
 use Rattle.std.specs.List.{zip}
-use Rattle.sp_dims.specs.Cells.{cell_at}
+use Rattle.sp_module_defs.specs.Cells.{cell_at}
 use Rattle.sp_dims.proofs.Solving.{solved, past}
 use Rattle.sp_dims.proofs.simple.simple_dims.Given as goal
 

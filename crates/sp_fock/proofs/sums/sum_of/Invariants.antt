@@ -3,14 +3,14 @@ use Rattle.std.specs.List.{AllByRecursion}
 use Rattle.sp_fock_law.specs.Joined.{combined, joined}
 use Rattle.sp_fock.specs.Held.{ArePairs}
 use Rattle.sp_fock.specs.Sum.{added, CanAdd}
-use Rattle.sp_fock.specs.Walk.{walk_of}
+use Rattle.sp_fock.specs.Merged.{merged_of}
 use Rattle.sp_fock.proofs.sums.sum_of.Given as goal
 
-abbrev pub invariant-loop-joint : goal.invariant-loop-joint
-invariant-loop-joint l =
-    (goal.iterator-loop-joint).can_next l.joint-iterator
-    × (goal.iterator-loop-joint).is_finite l.joint-iterator
-    × AllByRecursion (CanAdd l.factor l.limit) (walk_of l.joint-iterator)
-    × (l.sums.items ++ combined (added l.factor) (walk_of l.joint-iterator) ≡ combined (added l.factor)
-    (joined l.first l.second))
+abbrev pub invariant-loop-meeting : goal.invariant-loop-meeting
+invariant-loop-meeting l =
+    (goal.iterator-loop-meeting).can_next l.meeting-iterator
+    × (goal.iterator-loop-meeting).is_finite l.meeting-iterator
+    × AllByRecursion (CanAdd l.factor l.limit) (merged_of l.meeting-iterator)
+    × (l.sums.items ++ combined (added l.factor) (merged_of l.meeting-iterator) ≡ combined (added l.factor)
+    (joined l.fn.first.items l.second))
     × ArePairs l.sums.items

@@ -1,5 +1,6 @@
+use Rattle.std.proofs.Common.{◌+◌, ◌-◌, ◌^◌, ◌∙◌, ap, min}
 use Rattle.std.proofs.lemmas.Str.Parse.{digit_at}
-use Rattle.sp_partition.proofs.Numbers.{next_value}
+use Rattle.sp_partition.proofs.Numbers.{next_up_to}
 use Rattle.sp_lang.proofs.Digits.{number_digits}
 use Rattle.sp_lang.proofs.word.value.Goals as goal
 
@@ -10,6 +11,8 @@ overflow_sub-digit c =
 
 pub loop-digit-preserved : goal.loop-digit-preserved
 loop-digit-preserved c =
-    next_value c.args.digits.now c.loop-digit.digit-index c.loop-digit.value _ _
+    next_up_to (2 ^ 64 - 1) c.args.digits.now c.loop-digit.digit-index c.loop-digit.value _ _
     (number_digits c.args.digits.now c.requires) c.loop-digit-test.true
-    c.loop-digit.invariant c.saturating_mul.ensures c.saturating_add-value.ensures
+    c.loop-digit.invariant c.saturating_mul.ensures
+    (c.saturating_add-value.ensures
+    ∙ ap (λ digit. min (c.saturating_mul.result + digit) (2 ^ 64 - 1)) c.from.ensures)

@@ -1,16 +1,31 @@
-use Rattle.std.proofs.Common.{map, string_bytes, subst, sym}
-use Rattle.sp_words.specs.Options.{SetLimit, limit_texts}
-use Rattle.sp_words.proofs.Fronts.{at_end, one_limit}
+use Rattle.std.proofs.Common.{◌≡◌, ◌∙◌, true, false, string_bytes, sym}
+use Rattle.sp_words.specs.Found.{is_dashes}
+use Rattle.sp_words.proofs.Clap.{any_map}
+use Rattle.sp_words.proofs.Saying.{one_saying, says_no_dashes, says_plain}
 use Rattle.sp_words.proofs.words.read_words.Goals as goal
 
--- The limit at the end is the one that the words name.
-at_end_of : (c : goal.After-unwrap_or) → SetLimit (map string_bytes c.args.words.now) c.unwrap_or.result
-at_end_of c = subst (SetLimit (map string_bytes c.args.words.now)) (sym c.unwrap_or.ensures)
-    ((c.loop-rest.invariant.same _).1
-    (at_end c.loop-rest.limit string_bytes c.loop-rest.rest.now c.in_default.len_below))
+pub returns-then-has_dashes-clause-usage : goal.returns-then-has_dashes-clause-usage
+returns-then-has_dashes-clause-usage c = λ _ said says.
+    let none : c.has_dashes.result ≡ false =
+    c.has_dashes.ensures ∙ sym (any_map is_dashes string_bytes c.args.words.now)
+    ∙ says_no_dashes c.args.many _ said says in
+    let bad : true ≡ false = sym c.if-has_dashes.true ∙ none in
+    cc
 
-pub returns-clause-limit : goal.returns-clause-limit
-returns-clause-limit c = at_end_of c
+pub returns-in-Some-clause-only : goal.returns-in-Some-clause-only
+returns-in-Some-clause-only c = λ other says.
+    let plain = says_plain c.args.many _ other says in
+    let has = c.in-Ok.ensures.only says.options says.spelled says.allowed plain in
+    one_saying _ other c.in-Some.said says.values (c.in-Some.ensures says.options has)
 
-pub returns-clause-only : goal.returns-clause-only
-returns-clause-only c limit set = one_limit (limit_texts (map string_bytes c.args.words.now)) limit _ set (at_end_of c)
+pub returns-in-Ok-clause-usage : goal.returns-in-Ok-clause-usage
+returns-in-Ok-clause-usage c = λ _ said says.
+    let plain = says_plain c.args.many _ said says in
+    let has = c.in-Ok.ensures.only says.options says.spelled says.allowed plain in
+    c.in-None.ensures said says.options has says.values
+
+pub returns-clause-usage : goal.returns-clause-usage
+returns-clause-usage c = λ _ said says.
+    let plain = says_plain c.args.many _ said says in
+    absurd (c.in_default.not-OutOfMemory (c.kind.ensures
+    ∙ c.in-Err.ensures.fails says.options says.spelled says.allowed plain))

@@ -1,6 +1,6 @@
-use Rattle.std.proofs.Common.{ℕ, ◌<◌, ◌≤◌, List, length, ◌∙◌, ap, ap₂, subst, Err}
-use Rattle.sp_defs.specs.Partition.{is_regular, degree}
-use Rattle.sp_defs.specs.Power.{fock_vector}
+use Rattle.std.proofs.Common.{ℕ, ◌<◌, ◌≤◌, List, length, sym, ◌∙◌, ap, ap₂, subst, Err}
+use Rattle.sp_defs.specs.Partition.{is_regular, degree, partitions}
+use Rattle.sp_defs.specs.Power.{FockVector, fock_vector}
 use Rattle.sp_defs.specs.Ladder.{ladder_vector, ladder_weight}
 use Rattle.sp_core.specs.declared.piece.Key.{Key}
 use Rattle.sp_fock_law.specs.Tally.{tally_of, TallyValue}
@@ -25,6 +25,19 @@ ladder_vector-requires-clause-regular c =
     ap₂ (λ (key : Key) mu. is_regular key.e mu) c.key-key.ensures.value is
     ∙ (label_facts c.args.ctx.now c.args.k p).regular.regular
 
+pub from_vector-requires : goal.from_vector-requires
+from_vector-requires c =
+    let is = read_label c.args.ctx.now c.args.k c.regulars.result.now c.index-regulars-k.result c.regulars.ensures.value
+    c.requires c.index-regulars-k.is in
+    let p : IsPlace (place c.args.ctx.now c.args.k) = place_of c.args.ctx.now c.args.k c.regulars.ensures.held
+    c.requires in
+    c.all.ensures.value
+    ∙ ap partitions
+    (sym
+    (ap (λ (v : FockVector). v.degree) c.in-Ok.ensures.vector
+    ∙ ap degree is
+    ∙ (label_facts c.args.ctx.now c.args.k p).total))
+
 pub reach-requires-clause-within : goal.reach-requires-clause-within
 reach-requires-clause-within c =
     let is = read_label c.args.ctx.now c.args.k c.regulars.result.now c.index-regulars-k.result c.regulars.ensures.value
@@ -42,7 +55,7 @@ reach-requires-clause-left c =
     c.requires c.index-regulars-k.is in
     let p : IsPlace (place c.args.ctx.now c.args.k) = place_of c.args.ctx.now c.args.k c.regulars.ensures.held
     c.requires in
-    c.in_ok-tally-in-Ok.ensures
+    c.in_ok-slots-in-Ok.ensures
     ∙ ap tally_of c.in-Ok.ensures.vector
     ∙ ap₂ first_tally c.key-key.ensures.value is
     ∙ tally_start c.args.ctx.now c.args.k p

@@ -1,4 +1,4 @@
-use Rattle.std.proofs.Common.{sym, subst}
+use Rattle.std.proofs.Common.{sym, ◌∙◌, subst}
 use Rattle.sp_defs.specs.Power.{FockVector}
 use Rattle.sp_llt.specs.Place.{Place, place}
 use Rattle.sp_llt.specs.Laws.{ObeysRowLaw}
@@ -13,6 +13,6 @@ returns-in-Whole-clause-law c =
     let whole = told_whole key rank c.self.inside.mu c.self.inside.found c.in-Whole.row c.in-Whole.shares
     c.in-Whole.stray
     c.self.invariant c.in-Whole.is in
-    subst (λ (p : Place). ObeysRowLaw p c.in-Whole.row.entries) c.self.view_is
-    (subst (λ (v : FockVector). ObeysRowLaw (place key rank) v.entries) (sym whole.row)
+    subst (λ (p : Place). ObeysRowLaw p c.vector.result.now.entries) c.self.view_is
+    (subst (λ (v : FockVector). ObeysRowLaw (place key rank) v.entries) (sym (c.vector.ensures ∙ whole.row))
     (obeys_row key rank c.self.invariant.place))

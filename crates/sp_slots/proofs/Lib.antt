@@ -1,0 +1,4 @@
+pub mod Reading
+pub mod Indices
+pub mod Growing
+pub mod Collecting

@@ -1,0 +1,86 @@
+// What a tally has at one partition.
+ghost use Rattle.std.specs.Prelude.{◌≡◌, ◌+◌, ◌*◌, ◌^◌, ◌<◌, ◌≤◌, ◌↔◌, [], IsTrue, IfOk, OnOk, IsErrOf, IfSome, IfNone};
+ghost use Rattle.sp_defs.specs.Laurent.{size};
+ghost use Rattle.sp_defs.specs.Power.{vector_of};
+ghost use Rattle.sp_defs.specs.Within.{ProductWithin};
+ghost use Rattle.sp_laurent.specs.Held.{IsHeld, power_limit};
+ghost use Rattle.sp_slots.specs.Slot.{nothing, sized, grown, IsSlot};
+
+use sp_fock::{FockFault, Vector};
+use sp_laurent::Laurent;
+use sp_partition::Partition;
+use std::alloc::{AllocError, Global};
+
+/// A polynomial, and a total that is at least its size.
+#[derive(Drop)]
+pub(crate) struct Slot {
+    pub(crate) coefficient: Laurent,
+    pub(crate) total: u128,
+}
+
+impl Slot {
+    /// The slot of 0. It takes no memory.
+    pub(crate) fn empty(alloc: Global) -> Slot
+        ensures { result ≡ nothing }
+    {
+        Slot {
+            coefficient: Laurent::zero(alloc),
+            total: 0,
+        }
+    }
+
+    /// What the vector has at the partition, with its size as the total.
+    pub(crate) fn of(alloc: Global, v: &Vector, p: &Partition) -> Result<Slot, AllocError>
+        ensures { IfOk result (λ slot. slot ≡ sized (vector_of v.now.entries p.now)) }
+    {
+        match v.coefficient(p) {
+            Some(coefficient) => Ok(Slot {
+                coefficient: coefficient.copy(alloc)?,
+                total: coefficient.size(),
+            }),
+            None => Ok(Slot::empty(alloc)),
+        }
+    }
+
+    pub(crate) fn is_zero(&self) -> bool
+        ensures value { IsTrue result ↔ (self.now.coefficient ≡ []) }
+        ensures held { IsHeld self.now.coefficient }
+    {
+        self.coefficient.terms().is_empty()
+    }
+
+    /// With `a` times `b` added. The total grows by the product of their sizes: past the limit it is too large.
+    pub(crate) fn plus_product(
+        self,
+        a: &Laurent,
+        b: &Laurent,
+        limit: u128,
+    ) -> Result<Slot, FockFault>
+        requires slot { IsSlot self }
+        requires least { 1 ≤ limit }
+        requires most { limit < 2 ^ 127 }
+        requires within { ProductWithin power_limit a.now b.now }
+        ensures ok { IfOk result (λ slot. slot ≡ grown a.now self b.now) }
+        ensures fits { OnOk result (self.total + size a.now * size b.now ≤ limit) }
+        ensures too_large { IsErrOf result FockFault.TooLarge →
+            limit < self.total + size a.now * size b.now }
+    {
+        let Slot { coefficient, total } = self;
+        let Some(total) = sum_within(total, a.size(), b.size(), limit) else {
+            return Err(FockFault::TooLarge);
+        };
+        Ok(Slot {
+            coefficient: coefficient.plus_product(a, b, limit)?,
+            total,
+        })
+    }
+}
+
+// The sum of a total and a product of sizes, where it is within the limit.
+fn sum_within(total: u128, a: u128, b: u128, limit: u128) -> Option<u128>
+    ensures some { IfSome result (λ sum. (sum ≡ total + a * b) × (sum ≤ limit)) }
+    ensures none { IfNone result (limit < total + a * b) }
+{
+    let sum = a.checked_mul(b)?.checked_add(total)?;
+    if sum <= limit { Some(sum) } else { None }
+}
