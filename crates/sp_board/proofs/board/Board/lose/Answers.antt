@@ -59,7 +59,7 @@ returns g c =
     let x = lose_extends v.workers v.next v.marks.items v.history.items w row run mine in
     let old = pieces_of v.slots.items in
     let stored = stores v.key v.workers v.next v.next v.marks.items v.history.items c.push_reserved.new.self.items old
-        old c.args.self.now.pieces row Lost (Lose w row) c.args.self.now c.self.view_is c.push_reserved.ensures.items
+    old c.args.self.now.pieces row Lost (Lose w row) c.args.self.now c.self.view_is c.push_reserved.ensures.items
     (ap (λ (t : Table _). t.pieces) (sym c.self.view_is)) run (λ j done. refl) x in
     let own : mark_at c.args.self.now row ≡ Some (Taken w) =
     rw (← c.self.view_is) (mark_is v.key v.workers v.next v.marks.items v.history.items old row run ∙ mine) in
