@@ -26,8 +26,8 @@ use Rattle.sp_module_defs.specs.Jantzen.{jantzen_sum}
 use Rattle.sp_module_defs.specs.Agreement.{Cells, agrees, agreement_weight, jantzen_entries}
 use Rattle.sp_module_defs.specs.Agreement.{jantzen_value, jantzen_size}
 use Rattle.sp_module_defs.specs.Agreement.{slope_size}
-use Rattle.sp_dims.specs.Cells.{place, cell_at}
-use Rattle.sp_dims.proofs.Rows.{row_cells, found_place}
+use Rattle.sp_module_defs.specs.Cells.{place, cell_at}
+use Rattle.sp_module_defs.proofs.Places.{row_cells, found_place}
 use Rattle.sp_matrix.specs.declared.line.Term.{Term}
 use Rattle.sp_matrix.specs.declared.comparison.CompareFault.{CompareFault}
 use Rattle.sp_matrix.specs.declared.comparison.CompareFault.TheVariants as fault

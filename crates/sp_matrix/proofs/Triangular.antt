@@ -21,8 +21,8 @@ use Rattle.sp_row_law.proofs.RowsLaw.{rows_law}
 use Rattle.sp_outcome_law.proofs.Earlier.{row_earlier}
 use Rattle.sp_lists.proofs.Elements.{all_reverse}
 use Rattle.sp_module_defs.specs.Agreement.{Cells}
-use Rattle.sp_dims.specs.Cells.{place, cell_at}
-use Rattle.sp_dims.specs.Solution.{IsUnitriangular as IsSquareUnitriangular}
+use Rattle.sp_module_defs.specs.Cells.{place, cell_at}
+use Rattle.sp_module_defs.specs.Cells.{IsSquareUnitriangular}
 use Rattle.sp_matrix.specs.declared.scope.Scope.{Scope}
 use Rattle.sp_matrix.specs.declared.scope.Scope.TheVariants.{All, Block}
 use Rattle.sp_matrix.specs.declared.scope.Form.{Form}

@@ -11,7 +11,7 @@ use Rattle.sp_defs.specs.Partition.{IsPartitionOf}
 use Rattle.sp_defs.specs.Laurent.{Laurent, value_at_one, slope_at_one}
 use Rattle.sp_fock_law.specs.Grid.{GridValue, cell_of}
 use Rattle.sp_module_defs.specs.Agreement.{Cells, agrees, agreement_weight, jantzen_entries, slope_size}
-use Rattle.sp_dims.specs.Cells.{place}
+use Rattle.sp_module_defs.specs.Cells.{place}
 use Rattle.sp_matrix.specs.declared.comparison.Agreement.{Agreement}
 use Rattle.sp_matrix.specs.declared.comparison.CompareFault.{CompareFault}
 use Rattle.sp_matrix.specs.declared.comparison.CompareFault.TheVariants as fault

@@ -5,7 +5,7 @@ use Rattle.std.specs.declared.cmp.Ordering.TheVariants.{Greater}
 use Rattle.sp_defs.specs.Partition.{compare}
 use Rattle.sp_defs.specs.Laurent.{one}
 use Rattle.sp_fock_law.specs.Grid.{GridValue}
-use Rattle.sp_dims.specs.Cells.{cell_at}
+use Rattle.sp_module_defs.specs.Cells.{cell_at}
 
 -- In each column the cell at its own line is 1, and the cells at greater lines are 0.
 -- (Mathas, Iwahori-Hecke Algebras and Schur Algebras of the Symmetric Group, ch. 2)

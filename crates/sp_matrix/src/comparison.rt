@@ -2,7 +2,7 @@
 ghost use Rattle.std.specs.Prelude.{◌≡◌, ◌^◌, ◌<◌, ◌≤◌, true, false, cond, IfOk, OnOk, IsErrOf};
 ghost use Rattle.std.specs.Prelude.{None as Nothing, Some as Just};
 ghost use Rattle.std.specs.List.{AllByRecursion, AllZip};
-ghost use Rattle.sp_dims.specs.Cells.{cell_at};
+ghost use Rattle.sp_module_defs.specs.Cells.{cell_at};
 ghost use Rattle.sp_fock_law.specs.Grid.{GridValue};
 ghost use Rattle.sp_matrix.specs.Agreements.{agreement_of, HasAll, is_past, IsCalled, LineIs};
 

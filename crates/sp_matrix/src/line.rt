@@ -4,7 +4,7 @@ ghost use Rattle.std.specs.Cmp.Lexicographic.{pointwise};
 ghost use Rattle.std.specs.List.{AllByRecursion};
 ghost use Rattle.sp_defs.specs.Partition.{IsPartitionOf};
 ghost use Rattle.sp_fock_law.specs.Grid.{cell_of};
-ghost use Rattle.sp_dims.specs.Cells.{cell_at, place};
+ghost use Rattle.sp_module_defs.specs.Cells.{cell_at, place};
 ghost use Rattle.sp_matrix.specs.Agreements.{CellIs, HasAll, LineIs, products_at, terms_of};
 
 use crate::CompareFault;

@@ -1,6 +1,6 @@
 use Rattle.std.proofs.Common.{◌≡◌, take}
 use Rattle.std.specs.List.{AllZip}
-use Rattle.sp_dims.specs.Cells.{cell_at}
+use Rattle.sp_module_defs.specs.Cells.{cell_at}
 use Rattle.sp_matrix.specs.Agreements.{LineIs}
 use Rattle.sp_matrix.proofs.comparison.answers_alone.Given as goal
 

@@ -7,7 +7,7 @@ use Rattle.std.proofs.lemmas.List.Folds.{list_any_at}
 use Rattle.std.specs.List.{AllZip}
 use Rattle.std.specs.Option.{option_or}
 use Rattle.sp_module_defs.specs.Agreement.{Cells, agrees, agreement_weight}
-use Rattle.sp_dims.specs.Cells.{cell_at}
+use Rattle.sp_module_defs.specs.Cells.{cell_at}
 use Rattle.sp_matrix.specs.declared.comparison.CompareFault.{CompareFault}
 use Rattle.sp_matrix.specs.declared.comparison.CompareFault.TheVariants as fault
 use Rattle.sp_matrix.specs.Agreements.{is_past, LineIs}

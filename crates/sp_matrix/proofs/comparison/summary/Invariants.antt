@@ -1,6 +1,6 @@
 use Rattle.std.proofs.Common.{◌≡◌, false, not, take, find, count_by}
 use Rattle.sp_module_defs.specs.Agreement.{agrees}
-use Rattle.sp_dims.specs.Cells.{cell_at}
+use Rattle.sp_module_defs.specs.Cells.{cell_at}
 use Rattle.sp_matrix.specs.Agreements.{is_past}
 use Rattle.sp_matrix.proofs.comparison.summary.Given as goal
 

@@ -1,7 +1,7 @@
 use Rattle.std.proofs.Common.{◌<◌, ◌≤◌, ◌&&◌, [], length, get_or, sym, ◌∙◌, ap, ap₂, subst, Ok, Err}
 use Rattle.std.proofs.lemmas.List.{take_all}
 use Rattle.std.specs.List.{AllByRecursion, list_all, list_any}
-use Rattle.sp_dims.specs.Cells.{cell_at}
+use Rattle.sp_module_defs.specs.Cells.{cell_at}
 use Rattle.sp_matrix.specs.declared.line.Term.{Term}
 use Rattle.sp_matrix.proofs.Folding.{all_more, none_more}
 use Rattle.sp_matrix.proofs.Lined.{line_place, line_found, terms_placed, column_is, fault_is, agrees_is, past_is}

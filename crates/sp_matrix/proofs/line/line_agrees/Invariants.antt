@@ -1,6 +1,6 @@
 use Rattle.std.proofs.Common.{◌≡◌, false, take}
 use Rattle.std.specs.List.{list_all, list_any}
-use Rattle.sp_dims.specs.Cells.{cell_at}
+use Rattle.sp_module_defs.specs.Cells.{cell_at}
 use Rattle.sp_matrix.proofs.Lined.{agrees_at, past_at}
 use Rattle.sp_matrix.proofs.line.line_agrees.Given as goal
 

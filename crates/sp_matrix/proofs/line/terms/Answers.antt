@@ -4,7 +4,7 @@ use Rattle.std.specs.Int.{w128}
 use Rattle.std.specs.List.{AllByRecursion}
 use Rattle.sp_defs.specs.Laurent.{Laurent}
 use Rattle.sp_lists.proofs.Places.{all_at}
-use Rattle.sp_dims.specs.Cells.{place}
+use Rattle.sp_module_defs.specs.Cells.{place}
 use Rattle.sp_matrix.specs.declared.line.Term.{Term}
 use Rattle.sp_matrix.specs.Agreements.{term_of}
 use Rattle.sp_matrix.proofs.Lined.{entries_placed, line_found}

@@ -11,8 +11,8 @@ use Rattle.sp_matrix.specs.declared.scope.Form.{Form}
 use Rattle.sp_matrix.specs.Matrix.{columns_of, lines_of}
 use Rattle.sp_matrix.specs.Scope.{within, table_of}
 use Rattle.sp_matrix.specs.Walk.{line_cells, row_of, vectors_of}
-use Rattle.sp_dims.specs.Cells.{cell_at}
-use Rattle.sp_dims.specs.Solution.{IsUnitriangular as IsSquareUnitriangular}
+use Rattle.sp_module_defs.specs.Cells.{cell_at}
+use Rattle.sp_module_defs.specs.Cells.{IsSquareUnitriangular}
 use Rattle.sp_matrix.specs.Triangular.{IsUnitriangular}
 use Rattle.sp_matrix.proofs.Triangular.{triangular, square}
 use Rattle.sp_matrix.proofs.Tables.{table_is_grid, cells_are}
@@ -56,7 +56,7 @@ build-requires c =
     (sym (whole key c.key-e.result c.args.scope.now c.args.form c.in_ok-columns.columns.items c.in_ok-lines.lines.items
     c.regulars.result.now c.deref.result.now (rows_of c.in_ok-cells.cells.items) (vectors_of c.args.rows.now)
     c.deref-2.result.now c.key-e.ensures.value c.in_ok-columns.ensures c.regulars.ensures.value c.in_ok-lines.ensures
-    (c.deref.ensures.value ∙ c.in_ok-all_of.ensures) c.in_ok-cells.ensures c.deref-2.ensures.value c.requires))
+    (c.deref.ensures.value ∙ c.in_ok-all_of.ensures.list) c.in_ok-cells.ensures c.deref-2.ensures.value c.requires))
     (table_is_grid key.e key.degree c.args.scope.now c.args.form)
 
 pub returns-clause-table : goal.returns-clause-table
@@ -65,7 +65,7 @@ returns-clause-table c =
     (whole c.args.ctx.now c.key-e.result c.args.scope.now c.args.form c.in_ok-columns.columns.items
     c.in_ok-lines.lines.items c.regulars.result.now c.deref.result.now (rows_of c.in_ok-cells.cells.items)
     (vectors_of c.args.rows.now) c.deref-2.result.now c.key-e.ensures.value c.in_ok-columns.ensures
-    c.regulars.ensures.value c.in_ok-lines.ensures (c.deref.ensures.value ∙ c.in_ok-all_of.ensures)
+    c.regulars.ensures.value c.in_ok-lines.ensures (c.deref.ensures.value ∙ c.in_ok-all_of.ensures.list)
     c.in_ok-cells.ensures c.deref-2.ensures.value c.requires)
     c.build.ensures
 
