@@ -19,8 +19,13 @@ pub fn fill_alone(alloc: Global, ctx: &Ctx) -> Result<Vec<Arc<Entry>>, AllocErro
     Ok(rows)
 }
 
-// The entry of a rank, from those of all ranks below it.
-fn entry_from(alloc: Global, ctx: &Ctx, rows: &[Arc<Entry>], k: usize) -> Result<Entry, AllocError>
+/// The entry of a rank, from those of all ranks below it.
+pub(crate) fn entry_from(
+    alloc: Global,
+    ctx: &Ctx,
+    rows: &[Arc<Entry>],
+    k: usize,
+) -> Result<Entry, AllocError>
     requires rank { k < length (labels ctx.now) }
     requires rows { HasFirst ctx.now k rows.now }
     ensures { IfOk result (λ entry. entry ≡ place ctx.now k) }
