@@ -1,17 +1,17 @@
 -- Rows that are walked from their ends: what stands at a line, and what stays true for the lines after it.
-use Rattle.std.proofs.Common.{◌≡◌, ◌≢◌, ℕ, zero, suc, ◌+◌, ◌-◌, ◌<◌, ◌≤◌, true, false, List, [], ◌∷◌, map, length}
-use Rattle.std.proofs.Common.{get_or, set, reverse, refl, sym, ◌∙◌, ap, subst, arith, Less, Equal, Greater, is_eq}
+use Rattle.std.proofs.Common.{◌≡◌, ◌≢◌, ℕ, zero, suc, ◌+◌, ◌-◌, ◌<◌, false, List, [], ◌∷◌, map, length}
+use Rattle.std.proofs.Common.{get_or, set, refl, sym, ◌∙◌, ap, subst, arith, Less, Equal, Greater, is_eq}
 use Rattle.std.proofs.Common.{inl, inr, Bor}
-use Rattle.std.specs.List.{AllByRecursion, AllZip}
+use Rattle.std.specs.List.{AllZip}
 use Rattle.std.specs.Ordering.{ordering_reverse}
 use Rattle.std.proofs.lemmas.Bool.{cases_lt}
 use Rattle.std.proofs.lemmas.Cmp.{tied_itself}
 use Rattle.std.proofs.lemmas.List.{get_or_default, get_or-map, length-map}
 use Rattle.std.proofs.lemmas.Slice.Zip.{AllZip-long}
 use Rattle.rayon.proofs.ListFacts.{AllZip-weaken}
-use Rattle.sp_defs.specs.Partition.{compare, order, degree, IsPartitionOf}
+use Rattle.sp_defs.specs.Partition.{compare, order, IsPartitionOf}
 use Rattle.sp_defs.specs.Laurent.{Laurent}
-use Rattle.sp_defs.specs.Power.{FockVector, Entries, vector_of}
+use Rattle.sp_defs.specs.Power.{FockVector, vector_of}
 use Rattle.sp_lists.proofs.Places.{all_at}
 use Rattle.sp_shapes.proofs.Order.{same_lists, later_than}
 use Rattle.sp_partition.specs.OrderLaws.{order_total, order_one_degree}

@@ -1,4 +1,4 @@
-use Rattle.std.proofs.Common.{◌≡◌, ◌≢◌, ◌<◌, ◌-◌, ℕ, [], length, true, false, get_or, sym, ◌∙◌, ap, subst, arith, IfOk}
+use Rattle.std.proofs.Common.{◌≡◌, ◌<◌, ◌-◌, [], length, true, false, get_or, sym, ◌∙◌, ap, subst, arith, IfOk}
 use Rattle.std.proofs.lemmas.List.{get_or_default}
 use Rattle.sp_defs.specs.Power.{vector_of}
 use Rattle.sp_partition.specs.OrderLaws.{equal_lists, lists_equal}

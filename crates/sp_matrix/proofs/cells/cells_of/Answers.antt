@@ -1,4 +1,4 @@
-use Rattle.std.proofs.Common.{◌<◌, ◌++◌, ◌∷◌, [], length, sym, ◌∙◌, ap₂, subst}
+use Rattle.std.proofs.Common.{◌<◌, ◌++◌, ◌∷◌, [], sym, ◌∙◌, ap₂, subst}
 use Rattle.sp_matrix.proofs.Passed.{ends_long, passed_at, passed_set}
 use Rattle.sp_matrix.proofs.Sparse.{line_more}
 use Rattle.sp_matrix.proofs.cells.cells_of.Goals as goal

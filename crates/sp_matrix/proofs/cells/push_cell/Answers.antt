@@ -1,6 +1,5 @@
-use Rattle.std.proofs.Common.{◌≡◌, ◌≢◌, [], length, sym, ◌∙◌, ap, subst, arith}
+use Rattle.std.proofs.Common.{◌≡◌, [], sym, subst, arith}
 use Rattle.std.proofs.lemmas.Grind.{common_steps}
-use Rattle.sp_defs.specs.Laurent.{Laurent}
 use Rattle.sp_matrix.proofs.Sparse.{HasNext, next_cell, next_zero}
 use Rattle.sp_matrix.proofs.cells.push_cell.Goals as goal
 
