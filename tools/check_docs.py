@@ -3,8 +3,8 @@
 
 - docs/PROVED.md has a section for each crate of crates.txt, in that order, and each public function with a contract of
   its own is named in its crate's section.
-- Each function and each clause that a line of docs/PROVED.md names exists: a line begins with the function in
-  backticks, and behind it stand, in parentheses, the names of its clauses.
+- Each function and each clause that a line of docs/PROVED.md names exists: a line names functions in backticks up to
+  its first colon, each with the names of its clauses in parentheses behind it.
 - Each link in README.md and docs/ leads to a file, and to a heading of it where it names one.
 
 Prints what is wrong, a line each, and then how much was looked at.
@@ -15,7 +15,7 @@ import re
 import sys
 
 TOP = os.path.dirname(os.path.dirname(os.path.abspath(__file__)))
-ITEM = re.compile(r"^- `([^`]+)`(?: \(((?:`\w+`(?:, )?)+)\))?:")
+NAMED = re.compile(r"`([\w:]+)`(?: \(((?:`\w+`(?:, )?)+)\))?(?:, )?")
 BLOCK = re.compile(r"^(?:pub )?(impl|trait)\b(?:<[^>]*>)? *(?:[\w:]+(?:<[^>]*>)? for )?(\w+)")
 CALL = re.compile(r"^( *)(pub )?fn (\w+)")
 CLAUSE = re.compile(r"^\s+ensures (?:(\w+) )?\{")
@@ -28,15 +28,20 @@ def crates():
 
 
 def calls_of(crate):
-    """For each function of a crate that is seen from outside, the names of its clauses; '' for one without a name."""
-    found = {}
+    """For each function of a crate that its root hands out, the names of its clauses; '' for one without a name."""
+    found, handed_out = {}, set()
     folder = f"{TOP}/crates/{crate}/src"
     for here, _, files in os.walk(folder):
         for file in sorted(files):
             if file.endswith(".rt") and "test" not in file:
                 with open(f"{here}/{file}", encoding="utf-8") as it:
-                    read_calls(it.read().split("\n"), found)
-    return found
+                    text = it.read()
+                if file in ("lib.rt", "main.rt"):
+                    handed_out.update(re.findall(r"^pub (?:fn|struct|enum|trait|type) (\w+)", text, re.M))
+                    for names in re.findall(r"^pub use ([^;]+);", text, re.M):
+                        handed_out.update(re.findall(r"\w+", names))
+                read_calls(text.split("\n"), found)
+    return {call: clauses for call, clauses in found.items() if call.partition("::")[0] in handed_out}
 
 
 def read_calls(lines, found):
@@ -86,14 +91,14 @@ def check_proved(wrong):
             continue
         calls, named = calls_of(crate), set()
         for line in lines:
-            item = ITEM.match(line)
-            if not item:
+            head = line.partition(": ")[0]
+            if not head.startswith("- `"):
                 continue
-            for call in item.group(1).split(", "):
+            for call, names in NAMED.findall(head):
                 named.add(call)
                 if call not in calls:
                     wrong.append(f"docs/PROVED.md: {crate} has no function {call}")
-                for clause in re.findall(r"\w+", item.group(2) or ""):
+                for clause in re.findall(r"\w+", names):
                     clauses += 1
                     if clause not in calls.get(call, {clause}):
                         wrong.append(f"docs/PROVED.md: {call} of {crate} has no clause {clause}")

@@ -1,6 +1,8 @@
 pub mod Backwards
 pub mod Shown
 pub mod Tables
+pub mod Passed
+pub mod Sparse
 pub mod Refusals
 pub mod Triangular
 pub mod Folding

@@ -3,4 +3,5 @@ pub mod Refusal
 pub mod Triangular
 pub mod Scope
 pub mod Walk
+pub mod Cursors
 pub mod Agreements

@@ -4,6 +4,7 @@
 mod cells;
 mod columns;
 mod comparison;
+mod cursors;
 mod headings;
 mod line;
 mod matrix;

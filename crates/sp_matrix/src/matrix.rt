@@ -119,5 +119,5 @@ fn grid(
     let columns = heading(alloc, e, scope, ctx.regulars())?;
     let lines = heading(alloc, e, scope, &all_of(alloc, degree)?)?;
     let cells = cells(alloc, rows, &lines, form)?;
-    Grid::build(alloc, degree, columns, lines, cells)
+    Ok(Grid::from_cells(alloc, degree, columns, lines, cells))
 }

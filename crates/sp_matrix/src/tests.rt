@@ -81,6 +81,16 @@ fn the_matrix_of_degree_five(rt: HostRuntime) -> Result<(), Fail> {
 }
 
 #[test]
+fn the_greatest_column_that_is_refused(rt: HostRuntime) -> Result<(), Fail> {
+    let refused = b"too large at 9,1".as_slice();
+    assert_eq!(rt;
+        text(rt.alloc(), Kind::Crystal, 3, 10, 5)?.as_slice(),
+        refused
+    );
+    Ok(())
+}
+
+#[test]
 fn values_at_one(rt: HostRuntime) -> Result<(), Fail> {
     let alloc = rt.alloc();
     let at_two = b" 4 3,1; 4 1 0; 3,1 1 1; 2^2 0 1; 2,1^2 1 1; 1^4 1 0".as_slice();
