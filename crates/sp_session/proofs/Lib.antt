@@ -1,10 +1,4 @@
-pub mod Joined
-pub mod Ranking
-pub mod WordRows
-pub mod DominanceTest
-pub mod Finding
-pub mod Images
-pub mod Induced
+pub mod Naming
 pub mod Painted
 pub mod Pairs
 pub mod SimpleDims

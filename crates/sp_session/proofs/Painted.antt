@@ -1,10 +1,17 @@
 -- A page by one painter of a list.
 use Rattle.std.proofs.Math.ListN.{set}
-use Rattle.std.proofs.Common.{◌≡◌, ℕ, zero, suc, ◌<◌, List, [], ◌∷◌, length, map, get_or, ap, ◌∙◌, arith}
+use Rattle.std.proofs.Common.{◌≡◌, ℕ, zero, suc, ◌-◌, ◌<◌, ◌≤◌, true, false, List, [], ◌∷◌, length, map, get_or}
+use Rattle.std.proofs.Common.{ap, ◌∙◌, arith}
 use Rattle.sp_fock_law.specs.Grid.{GridValue}
 use Rattle.sp_paint.specs.Page.{page_of}
 use Rattle.sp_paint.specs.State.{PainterState, next_of}
-use Rattle.sp_session.specs.State.{page_by, painters_after}
+use Rattle.sp_session.specs.State.{is_empty, page_by, painters_after}
+
+-- A place that isn't past the last is one of the list's, where there is any.
+pub chosen_within : {X : Type 0} (state : X → PainterState) (xs : List X) (place : ℕ) → place ≤ length xs - 1 →
+    is_empty (map state xs) ≡ false → place < length xs
+chosen_within state [] place last some = absurd (let no : true ≡ false = some in cc)
+chosen_within state (x ∷ xs) place last some = omega (arith, last)
 
 module _ {X : Type 0} (state : X → PainterState) (grid : GridValue) where
   pub page_at : (xs : List X) (i : ℕ) (x : X) → i < length xs → x ≡ get_or xs i x →

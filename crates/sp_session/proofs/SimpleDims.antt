@@ -1,19 +1,21 @@
 -- The dimensions of the simple modules are those that solve the equations.
-use Rattle.std.proofs.Common.{◌≡◌, ℕ, List, [], ◌∷◌, ◌++◌, ℤ, refl, sym, ◌∙◌, ap, flat_map, ◌≢◌, Result, Ok, Err, OnOk}
+use Rattle.std.proofs.Common.{◌≡◌, ℕ, List, [], ◌∷◌, ◌++◌, ℤ, refl, sym, ◌∙◌, ap, flat_map}
+use Rattle.std.proofs.Common.{◌≢◌, Result, Ok, Err, OnOk}
 use Rattle.std.specs.List.{zip}
-use Rattle.sp_dims.specs.Cells.{cell_at}
+use Rattle.sp_module_defs.specs.Cells.{IsSquareUnitriangular, cell_at}
 use Rattle.sp_dims.specs.declared.fault.DimsFault.{DimsFault}
 use Rattle.sp_dims.specs.declared.fault.DimsFault.TheVariants.{TooLarge, Memory}
 use Rattle.sp_dims.specs.Equation.{next_dim}
-use Rattle.sp_dims.specs.Solution.{IsUnitriangular, IsSolution, IsWithin, IsPast, first_past}
-use Rattle.sp_dims.proofs.Rows.{descends}
+use Rattle.sp_dims.specs.Solution.{IsSolution, IsWithin, IsPast, first_past}
+use Rattle.sp_module_defs.proofs.Places.{descends}
 use Rattle.sp_dims.proofs.Solving.{solved, solution, upper}
 use Rattle.sp_fock_law.specs.Grid.{GridValue, IsGrid}
 use Rattle.sp_module_defs.specs.Agreement.{Cells}
 use Rattle.sp_module_defs.specs.Dims.{Dims}
-use Rattle.sp_session.specs.Modules.{dims_after, dims_line, dims_or_refusal, grid_dims_text, simple_dims_of}
-use Rattle.sp_session.specs.Pages.{too_large_text}
-use Rattle.sp_session.specs.Words.{line_of}
+use Rattle.sp_session.specs.Modules.{IsSolved, dims_after, dims_line, dims_or_refusal, grid_dims_text}
+use Rattle.sp_session.specs.Modules.{simple_dims_of}
+use Rattle.sp_replies.specs.Refusals.{refusal_line}
+use Rattle.sp_replies.specs.declared.refusals.Refusal.TheVariants.{LargeColumn}
 
 dims-solved : (d : Cells) (known : Dims) (columns : List (List ℕ)) → dims_after d known columns ≡ solved d known columns
 unfolding dims_after solved next_dim
@@ -21,7 +23,7 @@ dims-solved d known [] = refl
 dims-solved d known (mu ∷ columns) =
     ap (λ dims. next_dim d known mu ∷ dims) (dims-solved d (known ++ (mu, next_dim d known mu) ∷ []) columns)
 
-module _ (limit : ℕ) (g : GridValue) (grid : IsGrid g) (triangular : IsUnitriangular g.columns (cell_at g)) where
+module _ (limit : ℕ) (g : GridValue) (grid : IsGrid g) (triangular : IsSquareUnitriangular g.columns (cell_at g)) where
   dims_are : (dims : List ℤ) → IsSolution g.columns (cell_at g) dims → simple_dims_of g ≡ dims
   dims_are dims s =
       dims-solved (cell_at g) [] g.columns
@@ -34,19 +36,30 @@ module _ (limit : ℕ) (g : GridValue) (grid : IsGrid g) (triangular : IsUnitria
   told dims s =
       ap (λ ds. dims_or_refusal (first_past limit g.columns (cell_at g) ds) (zip g.columns ds)) (dims_are dims s)
 
+  -- What is told of the grid is the text of the only solution.
+  pub solved_text : IsSolved limit g (grid_dims_text limit g)
+  solved_text =
+      let s = solution (cell_at g) g.columns
+      (upper (cell_at g) g.columns (descends g.columns grid.columns.descending) triangular) in
+      record {
+        dims = solved (cell_at g) [] g.columns;
+        solution = s;
+        told = told (solved (cell_at g) [] g.columns) s;
+      }
+
   pub within_text : (dims : List ℤ) → IsWithin limit g.columns (cell_at g) dims →
       flat_map dims_line (zip g.columns dims) ≡ grid_dims_text limit g
   within_text dims w =
       sym (told dims w.solution ∙ ap (λ o. dims_or_refusal o (zip g.columns dims)) w.within)
 
   pub past_text : (at : List ℕ) → IsPast limit g.columns (cell_at g) at →
-      line_of (too_large_text at) ≡ grid_dims_text limit g
+      refusal_line (LargeColumn at) ≡ grid_dims_text limit g
   past_text at p = sym (told p.dims p.solution ∙ ap (λ o. dims_or_refusal o (zip g.columns p.dims)) p.first)
 
 -- A fault that is told is no want of memory.
 pub fault_told : {T E : Type 0} (r : Result T E) (fault : DimsFault) (new before text : List ℕ) →
-    OnOk r ((at : List ℕ) → fault ≡ TooLarge at → new ≡ before ++ line_of (too_large_text at)) →
-    OnOk r (fault ≢ Memory) → ((at : List ℕ) → fault ≡ TooLarge at → line_of (too_large_text at) ≡ text) →
+    OnOk r ((at : List ℕ) → fault ≡ TooLarge at → new ≡ before ++ refusal_line (LargeColumn at)) →
+    OnOk r (fault ≢ Memory) → ((at : List ℕ) → fault ≡ TooLarge at → refusal_line (LargeColumn at) ≡ text) →
     OnOk r (new ≡ before ++ text)
 fault_told (Ok x) (TooLarge at) new before text line memory past =
     line at refl ∙ ap (λ t. before ++ t) (past at refl)

@@ -1,36 +1,26 @@
--- Answers on Specht modules and simple ones. This project's own.
-use Rattle.std.specs.Prelude.{ℕ, List, [], ◌∷◌, ◌++◌, cond, flat_map, Option, Some, None, Result, Ok, Err, codes}
+-- Answers on the Specht modules and the simple modules of a degree. This project's own.
+use Rattle.std.specs.Prelude.{◌≡◌, ℕ, List, [], ◌∷◌, ◌++◌, cond, flat_map, Option, Some, None, Result, Ok, Err, codes}
 use Rattle.std.specs.Prelude.{ℤ, pos, ◌-ℤ◌}
 use Rattle.std.specs.List.{zip}
 use Rattle.std.specs.Fmt.{decimal, signed_decimal}
-use Rattle.sp_defs.specs.Partition.{degree}
-use Rattle.sp_defs.specs.Power.{entries}
-use Rattle.sp_defs.specs.Text.{partition_text, vector_text}
-use Rattle.sp_dims.specs.Cells.{cell_at}
-use Rattle.sp_dims.specs.Solution.{first_past}
+use Rattle.sp_defs.specs.Text.{partition_text}
+use Rattle.sp_module_defs.specs.Cells.{cell_at}
+use Rattle.sp_dims.specs.Solution.{IsSolution, first_past}
 use Rattle.sp_fock_law.specs.Grid.{GridValue}
 use Rattle.sp_matrix.specs.Agreements.{agreement_of, is_past}
 use Rattle.sp_matrix.specs.declared.comparison.Agreement.{Agreement}
 use Rattle.sp_module_defs.specs.Agreement.{Cells}
 use Rattle.sp_module_defs.specs.Dims.{Dims, composed_dim, specht_dim}
-use Rattle.sp_module_defs.specs.Jantzen.{jantzen_sum}
-use Rattle.sp_session.specs.Pages.{crystal_table, no_table_line, too_large_text}
-use Rattle.sp_session.specs.Words.{line_of}
-use Rattle.sp_session.specs.declared.tables.NoTable.{NoTable}
-
-abbrev pub dim_text : List ℕ → List ℕ
-dim_text p = line_of (decimal (specht_dim p))
-
--- The Jantzen sum.
-abbrev pub jantzen_text : ℕ → List ℕ → List ℕ
-jantzen_text e p = line_of (vector_text (entries (degree p) (jantzen_sum e p)))
-
--- ---- answers on a whole matrix
+use Rattle.sp_replies.specs.Refusals.{refusal_line}
+use Rattle.sp_replies.specs.Words.{line_of}
+use Rattle.sp_replies.specs.declared.refusals.Refusal.{Refusal}
+use Rattle.sp_replies.specs.declared.refusals.Refusal.TheVariants.{TooLarge, LargeColumn}
+use Rattle.sp_session.specs.Tables.{crystal_table}
 
 -- A text on the grid, or why there is none.
-abbrev pub on_table : (GridValue → List ℕ) → Result GridValue NoTable → List ℕ
+abbrev pub on_table : (GridValue → List ℕ) → Result GridValue Refusal → List ℕ
 on_table text (Ok grid) = text grid
-on_table text (Err why) = no_table_line why
+on_table text (Err why) = refusal_line why
 
 -- The dimensions of the simple modules of the columns, where those before are known: that of the Specht module, less
 -- what the greater columns make up of it.
@@ -52,7 +42,7 @@ dims_line (mu, dim) =
 -- One line each, unless a dimension weight is too large.
 abbrev pub dims_or_refusal : Option (List ℕ) → Dims → List ℕ
 dims_or_refusal None dims = flat_map dims_line dims
-dims_or_refusal (Some at) dims = line_of (too_large_text at)
+dims_or_refusal (Some at) dims = refusal_line (LargeColumn at)
 
 abbrev pub grid_dims_text : ℕ → GridValue → List ℕ
 grid_dims_text limit grid =
@@ -61,6 +51,14 @@ grid_dims_text limit grid =
 
 unfoldable pub dims_text : ℕ → ℕ → ℕ → List ℕ
 dims_text limit e n = on_table (grid_dims_text limit) (crystal_table limit e n)
+
+-- A text tells the only list of numbers that solves the equations of the simple dimensions, or that it gets too large.
+-- (Mathas, Iwahori-Hecke Algebras and Schur Algebras of the Symmetric Group, ch. 2)
+pub record IsSolved (limit : ℕ) (grid : GridValue) (text : List ℕ) : Type 0 where
+  pub dims : List ℤ
+  pub solution : IsSolution grid.columns (cell_at grid) dims
+  pub told : text ≡
+      dims_or_refusal (first_past limit grid.columns (cell_at grid) dims) (zip grid.columns dims)
 
 -- The greatest line that doesn't agree, if there is one.
 abbrev pub differ_text : Option (List ℕ) → List ℕ
@@ -74,7 +72,7 @@ agreement_text a =
 -- How far the grid agrees with the Jantzen sums of its lines, unless the numbers get too large.
 abbrev pub grid_schaper_text : ℕ → ℕ → GridValue → List ℕ
 grid_schaper_text limit e grid =
-    cond (is_past e limit (cell_at grid) grid.lines) (line_of (codes "error 9 too large"))
+    cond (is_past e limit (cell_at grid) grid.lines) (refusal_line TooLarge)
     (agreement_text (agreement_of e (cell_at grid) grid.lines))
 
 unfoldable pub schaper_text : ℕ → ℕ → ℕ → List ℕ

@@ -2,7 +2,8 @@
 use Rattle.std.specs.Prelude.{ℕ, zero, suc, Bool, true, false, List, [], ◌∷◌, flat_map, Option, Some, None, position}
 use Rattle.std.specs.Str.{bytes_eq}
 use Rattle.sp_fock_law.specs.Grid.{GridValue}
-use Rattle.sp_paint.specs.State.{PainterState, name_of, next_of}
+use Rattle.sp_paint.specs.State.{PainterState, name_of, named_by_form, next_of}
+use Rattle.sp_paint.specs.declared.form.Form.TheVariants.{Plain, Tex, Gap}
 use Rattle.sp_paint.specs.Page.{page_of, trailer_of}
 
 -- Its painters in order, and the place of the chosen one, counted from 0.
@@ -13,6 +14,10 @@ pub record State : Type 0 where
 -- Before the first line the first painter is chosen.
 abbrev pub opening : List PainterState → State
 opening painters = record { chosen = 0; painters = painters }
+
+-- The painters of the programs, in order, before their first page.
+abbrev pub standard_painters : List PainterState
+standard_painters = named_by_form Plain 0 ∷ named_by_form Tex 0 ∷ named_by_form Gap 0 ∷ []
 
 abbrev pub is_empty : List PainterState → Bool
 is_empty [] = true

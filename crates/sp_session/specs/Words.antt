@@ -1,11 +1,11 @@
--- Texts of words and of lines. This project's own.
-use Rattle.std.specs.Prelude.{ℕ, List, [], ◌∷◌, ◌++◌, codes}
-use Rattle.sp_defs.specs.Text.{joined_by}
+-- The limit that the words of the command line name. This project's own.
+use Rattle.std.specs.Prelude.{◌≡◌, ℕ, false, List, None}
+use Rattle.sp_words.specs.Words.{Says}
+use Rattle.sp_words.specs.declared.words.Words.{Words}
 
-abbrev pub line_of : List ℕ → List ℕ
-line_of text = text ++ codes "\n"
-
--- The words with a space between each two, and a dash where there is none.
-abbrev pub dash_or_words : List (List ℕ) → List ℕ
-dash_or_words [] = codes "-"
-dash_or_words (word ∷ words) = joined_by (codes " ") (word ∷ words)
+-- The words are allowed, say this limit, and ask for no lines that a number makes.
+pub record NamesLimit (words : List (List ℕ)) (limit : ℕ) : Type 0 where
+  pub said : Words
+  pub says : Says false words said
+  pub limit_is : said.limit ≡ limit
+  pub read : said.generate ≡ None

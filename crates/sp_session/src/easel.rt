@@ -64,7 +64,6 @@ impl Easel {
         }
     }
 
-    #[tactic(auto, unfolding(crate::specs::State::page_text, crate::specs::State::after_page))]
     /// Appends a page by the chosen painter. An `Err` leaves `out` unspecified.
     pub(crate) fn page(
         &mut self,
@@ -78,11 +77,12 @@ impl Easel {
         ensures next { OnOk result (⟦<Easel as Remembers>⟧.memory self.new ≡
             after_page (⟦<Easel as Remembers>⟧.memory self.old) grid.now) }
     {
-        put_page(&mut self.painters, self.chosen, alloc, grid, out)
+        let painter = &mut self.painters[self.chosen];
+        paint(painter, alloc, grid, out)
     }
 
-    #[tactic(auto, unfolding(crate::specs::State::closing))]
     /// Appends the trailers of all painters, in order. An `Err` leaves `out` unspecified.
+    #[tactic(auto, unfolding(crate::specs::State::closing))]
     pub(crate) fn close(&self, alloc: Global, out: &mut Vec<u8>) -> Result<(), AllocError>
         ensures { OnOk result (out.new.items ≡ out.old.items ++ closing (⟦<Easel as Remembers>⟧.memory self.now)) }
     {
@@ -90,25 +90,7 @@ impl Easel {
     }
 }
 
-// A page by the painter in this place.
-fn put_page(
-    painters: &mut Vec<Box<dyn Painter>>,
-    place: usize,
-    alloc: Global,
-    grid: &Grid,
-    out: &mut Vec<u8>,
-) -> Result<(), AllocError>
-    requires { place < length painters.old.items }
-    ensures text { OnOk result (out.new.items ≡
-        out.old.items ++ page_by (map (λ b. state b) painters.old.items) place grid.now) }
-    ensures next { OnOk result (map (λ b. state b) painters.new.items ≡
-        painters_after (map (λ b. state b) painters.old.items) place grid.now) }
-    ensures count { length painters.new.items ≡ length painters.old.items }
-{
-    let painter = &mut painters[place];
-    paint(painter, alloc, grid, out)
-}
-
+// A page by one painter.
 fn paint(
     painter: &mut Box<dyn Painter>,
     alloc: Global,

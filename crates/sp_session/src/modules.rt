@@ -1,54 +1,32 @@
-// Answers on Specht modules and simple ones.
-ghost use Rattle.std.specs.Prelude.{◌≡◌, ◌≢◌, ◌++◌, ◌≤◌, ◌<◌, ◌^◌, List, ℕ, OnOk, codes, flat_map, length};
+// Answers on the Specht modules and the simple modules of a degree.
+ghost use Rattle.std.specs.Prelude.{◌≡◌, ◌≢◌, ◌++◌, ◌≤◌, ◌<◌, ◌^◌, List, ℕ, Ok, OnOk, flat_map, length};
 ghost use Rattle.std.specs.List.{zip};
-ghost use Rattle.sp_dims.specs.Cells.{cell_at};
-ghost use Rattle.sp_dims.specs.Solution.{IsUnitriangular};
-ghost use Rattle.sp_defs.specs.Text.{partition_text};
+ghost use Rattle.sp_module_defs.specs.Cells.{IsSquareUnitriangular, cell_at};
+ghost use Rattle.sp_fock_law.specs.Grid.{GridValue};
 ghost use Rattle.sp_matrix.specs.Agreements.{HasAll};
-ghost use Rattle.sp_session.specs.Modules.{agreement_text, differ_text, grid_schaper_text, schaper_text};
-ghost use Rattle.sp_session.specs.Modules.{dim_text, dims_line, dims_text, grid_dims_text, jantzen_text};
-ghost use Rattle.sp_session.specs.Pages.{too_large_text};
-ghost use Rattle.sp_session.specs.Words.{line_of};
+ghost use Rattle.sp_replies.specs.Refusals.{refusal_line};
+ghost use Rattle.sp_replies.specs.declared.refusals.Refusal.TheVariants.{LargeColumn};
+ghost use Rattle.sp_session.specs.Modules.{IsSolved, agreement_text, differ_text, dims_line, dims_text};
+ghost use Rattle.sp_session.specs.Modules.{grid_dims_text, grid_schaper_text, schaper_text};
+ghost use Rattle.sp_session.specs.Tables.{crystal_table};
 
-use crate::orders::put_line;
-use crate::pages::{put_no_table, put_too_large};
-use crate::tables::crystal_table;
-use crate::vectors::put_vector;
+use crate::fillers::Filler;
+use crate::tables::crystal_table as crystal_of;
 use sp_base::put_number;
 use sp_dims::{DimsFault, simple_dims, specht_dim};
 use sp_fock::Grid;
-use sp_jantzen::jantzen;
-use sp_matrix::{Agreement, CompareFault, compare_alone};
+use sp_matrix::{Agreement, CompareFault};
 use sp_partition::{DEGREE_LIMIT, Partition};
+use sp_replies::{Refusal, put_named, put_refusal};
 use std::alloc::{AllocError, Global};
 
-/// The dimension of the Specht module. An `Err` leaves `out` unspecified, here and below.
-pub(crate) fn put_dim(alloc: Global, p: &Partition, out: &mut Vec<u8>) -> Result<(), AllocError>
-    ensures { OnOk result (out.new.items ≡ out.old.items ++ dim_text p.now) }
-{
-    put_number(alloc, out, specht_dim(p) as i128)?;
-    out.extend_from_slice(b"\n")
-}
-
-/// The Jantzen sum.
-pub(crate) fn put_jantzen(
-    alloc: Global,
-    e: u8,
-    p: &Partition,
-    out: &mut Vec<u8>,
-) -> Result<(), AllocError>
-    requires e_least { 2 ≤ e }
-    requires e_most { e ≤ 64 }
-    ensures { OnOk result (out.new.items ≡ out.old.items ++ jantzen_text e p.now) }
-{
-    put_vector(alloc, &jantzen(alloc, e, p)?, out)
-}
-
-/// Both dimensions of each column of the matrix of a degree, by descending columns.
+/// Both dimensions of each column of the matrix of a degree, by descending columns. An `Err` leaves `out` unspecified,
+/// here and below.
 #[tactic(auto, unfolding(crate::specs::Modules::dims_text))]
-pub(crate) fn put_dims(
+pub(crate) fn put_dims<F: Filler>(
     alloc: Global,
     limit: u128,
+    filler: &F,
     e: u8,
     n: u8,
     out: &mut Vec<u8>,
@@ -58,11 +36,15 @@ pub(crate) fn put_dims(
     requires e_least { 2 ≤ e }
     requires e_most { e ≤ 64 }
     requires small { n ≤ DEGREE_LIMIT }
-    ensures { OnOk result (out.new.items ≡ out.old.items ++ dims_text limit e n) }
+    ensures text { OnOk result (out.new.items ≡ out.old.items ++ dims_text limit e n) }
+
+    // Where no column is refused, the text tells the only list of numbers that solves the equations.
+    ensures solved { OnOk result ((grid : GridValue) → crystal_table limit e n ≡ Ok grid →
+        IsSolved limit grid (dims_text limit e n)) }
 {
-    match crystal_table(alloc, limit, e, n)? {
+    match crystal_of(alloc, limit, filler, e, n)? {
         Ok(grid) => put_grid_dims(alloc, limit, &grid, out),
-        Err(why) => put_no_table(alloc, &why, out),
+        Err(why) => put_refusal(alloc, &why, out),
     }
 }
 
@@ -74,8 +56,9 @@ fn put_grid_dims(
 ) -> Result<(), AllocError>
     requires least { 1 ≤ limit }
     requires most { limit < 2 ^ 127 }
-    requires triangular { IsUnitriangular grid.now.columns (cell_at grid.now) }
-    ensures { OnOk result (out.new.items ≡ out.old.items ++ grid_dims_text limit grid.now) }
+    requires triangular { IsSquareUnitriangular grid.now.columns (cell_at grid.now) }
+    ensures text { OnOk result (out.new.items ≡ out.old.items ++ grid_dims_text limit grid.now) }
+    ensures solved { OnOk result (IsSolved limit grid.now (grid_dims_text limit grid.now)) }
 {
     let _held = grid.degree();
     match simple_dims(alloc, grid, limit) {
@@ -86,20 +69,13 @@ fn put_grid_dims(
 
 fn put_dims_fault(alloc: Global, fault: &DimsFault, out: &mut Vec<u8>) -> Result<(), AllocError>
     ensures line { OnOk result ((at : List ℕ) → fault.now ≡ DimsFault.TooLarge at →
-        out.new.items ≡ out.old.items ++ line_of (too_large_text at)) }
+        out.new.items ≡ out.old.items ++ refusal_line (LargeColumn at)) }
     ensures memory { OnOk result (fault.now ≢ DimsFault.Memory) }
 {
     match fault {
-        DimsFault::TooLarge { at } => put_too_large_line(alloc, at, out),
+        DimsFault::TooLarge { at } => put_refusal(alloc, &Refusal::LargeColumn { column: *at }, out),
         DimsFault::Memory => Err(AllocError),
     }
-}
-
-fn put_too_large_line(alloc: Global, at: &Partition, out: &mut Vec<u8>) -> Result<(), AllocError>
-    ensures { OnOk result (out.new.items ≡ out.old.items ++ line_of (too_large_text at.now)) }
-{
-    put_too_large(alloc, at, out)?;
-    out.extend_from_slice(b"\n")
 }
 
 fn put_grid_dims_lines(
@@ -147,9 +123,10 @@ fn put_dims_line(
 
 /// How far the matrix of a degree agrees with the Jantzen sums.
 #[tactic(auto, unfolding(crate::specs::Modules::schaper_text))]
-pub(crate) fn put_schaper(
+pub(crate) fn put_schaper<F: Filler>(
     alloc: Global,
     limit: u128,
+    filler: &F,
     e: u8,
     n: u8,
     out: &mut Vec<u8>,
@@ -161,15 +138,16 @@ pub(crate) fn put_schaper(
     requires small { n ≤ DEGREE_LIMIT }
     ensures { OnOk result (out.new.items ≡ out.old.items ++ schaper_text limit e n) }
 {
-    match crystal_table(alloc, limit, e, n)? {
-        Ok(grid) => put_grid_schaper(alloc, limit, e, &grid, out),
-        Err(why) => put_no_table(alloc, &why, out),
+    match crystal_of(alloc, limit, filler, e, n)? {
+        Ok(grid) => put_grid_schaper(alloc, limit, filler, e, &grid, out),
+        Err(why) => put_refusal(alloc, &why, out),
     }
 }
 
-fn put_grid_schaper(
+fn put_grid_schaper<F: Filler>(
     alloc: Global,
     limit: u128,
+    filler: &F,
     e: u8,
     grid: &Grid,
     out: &mut Vec<u8>,
@@ -181,9 +159,9 @@ fn put_grid_schaper(
     requires all { HasAll e grid.now }
     ensures { OnOk result (out.new.items ≡ out.old.items ++ grid_schaper_text limit e grid.now) }
 {
-    match compare_alone(alloc, e, grid, limit) {
+    match filler.compare(alloc, e, grid, limit) {
         Ok(agreement) => put_agreement(alloc, &agreement, out),
-        Err(CompareFault::TooLarge) => out.extend_from_slice(b"error 9 too large\n"),
+        Err(CompareFault::TooLarge) => put_refusal(alloc, &Refusal::TooLarge, out),
         Err(CompareFault::Memory) => Err(AllocError),
     }
 }
@@ -205,14 +183,6 @@ fn put_differ(alloc: Global, first: &Option<Partition>, out: &mut Vec<u8>) -> Re
 {
     match first {
         None => Ok(()),
-        Some(lambda) => put_differing(alloc, lambda, out),
+        Some(lambda) => put_named(alloc, b"differ at ", lambda, out),
     }
-}
-
-fn put_differing(alloc: Global, lambda: &Partition, out: &mut Vec<u8>) -> Result<(), AllocError>
-    ensures { OnOk result (out.new.items ≡
-        out.old.items ++ line_of (codes "differ at " ++ partition_text lambda.now)) }
-{
-    out.extend_from_slice(b"differ at ")?;
-    put_line(alloc, lambda, out)
 }

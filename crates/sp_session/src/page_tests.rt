@@ -34,8 +34,8 @@ fn matrices_are_shown(rt: HostRuntime) -> Result<(), Fail> {
             "error 18 not a core\nerror 18 not a core\n",
         ),
         (
-            "block 3 1 7\nblock 2 1 18446744073709551616\n",
-            "error 18 degree past 20\nerror 18 degree past 20\n",
+            "block 3 1 10\nblock 2 1 18446744073709551616\n",
+            "error 18 degree past 30\nerror 18 degree past 30\n",
         ),
     ];
     for (input, output) in cases {
@@ -69,7 +69,7 @@ fn modules_are_answered(rt: HostRuntime) -> Result<(), Fail> {
 
 #[test]
 fn matrices_are_refused_past_the_limit(rt: HostRuntime) -> Result<(), Fail> {
-    let cases: [(&'static [&'static str], &'static str, &'static str); 4] = [
+    let cases: [(&'static [&'static str], &'static str, &'static str); 6] = [
         (
             &["--limit", "2"],
             "crystal 2 5\ndecomposition 2 5\nblock 2 1 2\ndims 2 5\nschaper 2 5\n",
@@ -85,6 +85,12 @@ fn matrices_are_refused_past_the_limit(rt: HostRuntime) -> Result<(), Fail> {
             &["--limit", "1"],
             "schaper 2 4\nblock 2 2,1 1\n",
             "error 9 too large\ncolumns 4,1\n4,1: 1\n2,1^3: 1\n",
+        ),
+        (&["--limit", "3"], "schaper 2 6\n", "error 9 too large\n"),
+        (
+            &["--limit", "5"],
+            "crystal 3 10\n",
+            "error 9 too large at column 9,1\n",
         ),
         // A trailer has only the pages that were painted.
         (

@@ -4,27 +4,26 @@ ghost use Rattle.sp_lang.specs.Given.{IsCommand};
 ghost use Rattle.sp_lang.specs.Reading.{reading};
 ghost use Rattle.sp_session.specs.Reply.{answer_to, next, reply, state_after};
 
-use crate::abacuses::{put_combined, put_core};
-use crate::diagrams::put_content;
 use crate::easel::{Easel, Remembers};
-use crate::faults::put_fault;
-use crate::modules::{put_dim, put_dims, put_jantzen, put_schaper};
-use crate::orders::{put_conjugate, put_dominance, put_partitions, put_regulars};
-use crate::pages::{put_block, put_choice, put_crystal, put_decomposition};
-use crate::rows::put_row;
-use crate::signatures::{put_good, put_image, put_path};
-use crate::vectors::{put_induced, put_ladder_vector, put_ladders};
+use crate::fillers::Filler;
+use crate::modules::{put_dims, put_schaper};
+use crate::pages::{put_choice, put_page};
+use crate::tables::Subject;
 use sp_abacus::abacus_text;
 use sp_lang::{Command, LineFault, read_command};
 use sp_nodes::{diagram_text, hooks_text};
+use sp_replies::{put_combined, put_conjugate, put_content, put_core, put_dim, put_dominance, put_fault, put_good};
+use sp_replies::{put_image, put_induced, put_jantzen, put_ladder_vector, put_ladders, put_partitions, put_path};
+use sp_replies::{put_regulars, put_row};
 use std::alloc::{AllocError, Global};
 
 /// Appends the reply to a line: the answer to its command, or its first fault. An `Err` leaves `out` and the painters
 /// unspecified.
 #[tactic(auto, unfolding(crate::specs::Reply::reply, crate::specs::Reply::next))]
-pub(crate) fn put_reply(
+pub(crate) fn put_reply<F: Filler>(
     alloc: Global,
     limit: u128,
+    filler: &F,
     easel: &mut Easel,
     line: &[u8],
     out: &mut Vec<u8>,
@@ -37,7 +36,7 @@ pub(crate) fn put_reply(
         next limit (⟦<Easel as Remembers>⟧.memory easel.old) line.now) }
 {
     match read_command(alloc, line) {
-        Ok(command) => put_answer(alloc, limit, easel, &command, out),
+        Ok(command) => put_answer(alloc, limit, filler, easel, &command, out),
         Err(LineFault::Memory) => Err(AllocError),
         Err(fault) => put_fault(fault, out),
     }
@@ -45,9 +44,10 @@ pub(crate) fn put_reply(
 
 // Appends the answer to a command.
 #[tactic(auto, unfolding(crate::specs::Reply::answer_to, crate::specs::Reply::state_after))]
-fn put_answer(
+fn put_answer<F: Filler>(
     alloc: Global,
     limit: u128,
+    filler: &F,
     easel: &mut Easel,
     command: &Command,
     out: &mut Vec<u8>,
@@ -81,13 +81,19 @@ fn put_answer(
         Command::Ladders(e, mu) => put_ladders(alloc, *e, mu, out),
         Command::Ladder(e, mu) => put_ladder_vector(alloc, limit, *e, mu, out),
         Command::Row(e, mu) => put_row(alloc, limit, *e, mu, out),
-        Command::Painter(name) => put_choice(easel, name, out),
-        Command::Crystal(e, n) => put_crystal(alloc, limit, easel, *e, *n, out),
-        Command::Decomposition(e, n) => put_decomposition(alloc, limit, easel, *e, *n, out),
-        Command::Block(e, kappa, w) => put_block(alloc, limit, easel, *e, kappa, *w, out),
+        Command::Painter(name) => put_choice(alloc, easel, name, out),
+        Command::Crystal(e, n) => {
+            put_page(alloc, limit, filler, easel, &Subject::Crystal(*e, *n), out)
+        }
+        Command::Decomposition(e, n) => {
+            put_page(alloc, limit, filler, easel, &Subject::Decomposition(*e, *n), out)
+        }
+        Command::Block(e, kappa, w) => {
+            put_page(alloc, limit, filler, easel, &Subject::Block(*e, *kappa, *w), out)
+        }
         Command::Jantzen(e, p) => put_jantzen(alloc, *e, p, out),
-        Command::Schaper(e, n) => put_schaper(alloc, limit, *e, *n, out),
+        Command::Schaper(e, n) => put_schaper(alloc, limit, filler, *e, *n, out),
         Command::Dim(p) => put_dim(alloc, p, out),
-        Command::Dims(e, n) => put_dims(alloc, limit, *e, *n, out),
+        Command::Dims(e, n) => put_dims(alloc, limit, filler, *e, *n, out),
     }
 }

@@ -1,38 +1,63 @@
 // The grids that pages show.
 ghost use Rattle.std.specs.Prelude.{◌≡◌, ◌≤◌, ◌<◌, ◌^◌, IfOk, IfSome, IsNone};
 ghost use Rattle.sp_defs.specs.Partition.{IsPartition, degree as degree_of};
-ghost use Rattle.sp_dims.specs.Cells.{cell_at};
-ghost use Rattle.sp_dims.specs.Solution.{IsUnitriangular};
+ghost use Rattle.sp_module_defs.specs.Cells.{IsSquareUnitriangular, cell_at};
 ghost use Rattle.sp_fock_law.specs.Grid.{GridValue};
 ghost use Rattle.sp_matrix.specs.Agreements.{HasAll};
-ghost use Rattle.sp_session.specs.Pages.{block_degree, block_table, block_within, crystal_table, decomposition_table};
-ghost use Rattle.sp_session.specs.Tables.{IsTold};
+ghost use Rattle.sp_session.specs.Tables.{IsSubject, IsTold, block_degree, block_table, block_within, crystal_table};
+ghost use Rattle.sp_session.specs.Tables.{decomposition_table, table_of};
 
+use crate::fillers::Filler;
 use sp_abacus::core;
 use sp_fock::Grid;
-use sp_llt::{Ctx, Entry, FirstRefused, RowsFault};
+use sp_llt::{Ctx, RowsFault};
 use sp_matrix::{block, crystal, decomposition};
 use sp_partition::{DEGREE_LIMIT, Partition};
-use sp_pool::fill_alone;
+use sp_replies::Refusal;
 use std::alloc::{AllocError, Global};
 
-/// Why there is no grid to show.
+/// What a page shows.
 #[derive(Clone, Copy, Debug)]
-pub(crate) enum NoTable {
-    /// The partition isn't a core.
-    NotCore,
-    /// The degree of the block passes the greatest.
-    PastDegree,
-    /// This column has no row.
-    Column(FirstRefused),
+pub(crate) enum Subject {
+    /// The matrix of a degree.
+    Crystal(u8, u8),
+    /// The matrix of a degree at v = 1.
+    Decomposition(u8, u8),
+    /// The block with this core and this weight, at v = 1.
+    Block(u8, Partition, u64),
 }
 
 /// A grid, or why there is none.
-pub(crate) type Table = Result<Grid, NoTable>;
+pub(crate) type Table = Result<Grid, Refusal>;
 
-/// The matrix of a degree. An `Err` is want of memory, here and below.
-#[tactic(auto, unfolding(crate::specs::Pages::crystal_table))]
-pub(crate) fn crystal_table(alloc: Global, limit: u128, e: u8, n: u8) -> Result<Table, AllocError>
+/// The grid of a page. An `Err` is want of memory, here and below.
+pub(crate) fn subject_table<F: Filler>(
+    alloc: Global,
+    limit: u128,
+    filler: &F,
+    subject: &Subject,
+) -> Result<Table, AllocError>
+    requires least { 1 ≤ limit }
+    requires most { limit < 2 ^ 127 }
+    requires subject { IsSubject subject.now }
+    ensures { IfOk result (λ table. table ≡ table_of limit subject.now) }
+{
+    match subject {
+        Subject::Crystal(e, n) => crystal_table(alloc, limit, filler, *e, *n),
+        Subject::Decomposition(e, n) => decomposition_table(alloc, limit, filler, *e, *n),
+        Subject::Block(e, kappa, w) => block_table(alloc, limit, filler, *e, kappa, *w),
+    }
+}
+
+/// The matrix of a degree.
+#[tactic(auto, unfolding(crate::specs::Tables::crystal_table))]
+pub(crate) fn crystal_table<F: Filler>(
+    alloc: Global,
+    limit: u128,
+    filler: &F,
+    e: u8,
+    n: u8,
+) -> Result<Table, AllocError>
     requires least { 1 ≤ limit }
     requires most { limit < 2 ^ 127 }
     requires e_least { 2 ≤ e }
@@ -40,18 +65,19 @@ pub(crate) fn crystal_table(alloc: Global, limit: u128, e: u8, n: u8) -> Result<
     requires small { n ≤ DEGREE_LIMIT }
     ensures table { IfOk result (λ table. table ≡ crystal_table limit e n) }
     ensures all { IfOk result (λ table. IfOk table (HasAll e)) }
-    ensures triangular { IfOk result (λ table. IfOk table (λ grid. IsUnitriangular grid.columns (cell_at grid))) }
+    ensures triangular { IfOk result (λ table. IfOk table (λ grid. IsSquareUnitriangular grid.columns (cell_at grid))) }
 {
     let ctx = Ctx::open(alloc, e, n, limit)?;
-    let rows = fill_alone(alloc, &ctx)?;
+    let rows = filler.fill(alloc, &ctx)?;
     told(crystal(alloc, &ctx, &rows))
 }
 
-/// The matrix of a degree at v = 1.
-#[tactic(auto, unfolding(crate::specs::Pages::decomposition_table))]
-pub(crate) fn decomposition_table(
+// The matrix of a degree at v = 1.
+#[tactic(auto, unfolding(crate::specs::Tables::decomposition_table))]
+fn decomposition_table<F: Filler>(
     alloc: Global,
     limit: u128,
+    filler: &F,
     e: u8,
     n: u8,
 ) -> Result<Table, AllocError>
@@ -63,15 +89,16 @@ pub(crate) fn decomposition_table(
     ensures { IfOk result (λ table. table ≡ decomposition_table limit e n) }
 {
     let ctx = Ctx::open(alloc, e, n, limit)?;
-    let rows = fill_alone(alloc, &ctx)?;
+    let rows = filler.fill(alloc, &ctx)?;
     told(decomposition(alloc, &ctx, &rows))
 }
 
-/// The block with this core and this weight, at v = 1.
-#[tactic(auto, unfolding(crate::specs::Pages::block_table))]
-pub(crate) fn block_table(
+// The block with this core and this weight, at v = 1.
+#[tactic(auto, unfolding(crate::specs::Tables::block_table))]
+fn block_table<F: Filler>(
     alloc: Global,
     limit: u128,
+    filler: &F,
     e: u8,
     kappa: &Partition,
     w: u64,
@@ -83,11 +110,11 @@ pub(crate) fn block_table(
     ensures { IfOk result (λ table. table ≡ block_table limit e kappa.now w) }
 {
     if core(e, kappa) != *kappa {
-        return Ok(Err(NoTable::NotCore));
+        return Ok(Err(Refusal::NotCore));
     }
     match degree_of_block(e, kappa, w) {
-        Some(n) => block_within(alloc, limit, e, kappa, n),
-        None => Ok(Err(NoTable::PastDegree)),
+        Some(n) => block_within(alloc, limit, filler, e, kappa, n),
+        None => Ok(Err(Refusal::PastDegree)),
     }
 }
 
@@ -105,9 +132,10 @@ fn degree_of_block(e: u8, kappa: &Partition, w: u64) -> Option<u8>
     }
 }
 
-fn block_within(
+fn block_within<F: Filler>(
     alloc: Global,
     limit: u128,
+    filler: &F,
     e: u8,
     kappa: &Partition,
     n: u8,
@@ -120,7 +148,7 @@ fn block_within(
     ensures { IfOk result (λ table. table ≡ block_within limit e kappa.now n) }
 {
     let ctx = Ctx::open(alloc, e, n, limit)?;
-    let rows = fill_alone(alloc, &ctx)?;
+    let rows = filler.fill(alloc, &ctx)?;
     told(block(alloc, &ctx, &rows, kappa))
 }
 
@@ -130,7 +158,7 @@ fn told(grid: Result<Grid, RowsFault>) -> Result<Table, AllocError>
 {
     match grid {
         Ok(grid) => Ok(Ok(grid)),
-        Err(RowsFault::Refused(refused)) => Ok(Err(NoTable::Column(refused))),
+        Err(RowsFault::Refused(refused)) => Ok(Err(Refusal::from(refused))),
         Err(RowsFault::Memory) => Err(AllocError),
     }
 }

@@ -147,7 +147,8 @@ fn cores_and_quotients_are_answered(rt: HostRuntime) -> Result<(), Fail> {
         ("combine 3 1 1|-|-\n", "4\n"),
         ("combine 3 3 -|-|-\n", "error 18 not a core\n"),
         ("combine 3 1 -|-\n", "error 18 not e quotients\n"),
-        ("combine 3 1 7|-|-\n", "error 18 degree past 20\n"),
+        ("combine 3 1 7|-|-\n", "22\n"),
+        ("combine 3 1 10|-|-\n", "error 18 degree past 30\n"),
     ];
     for (input, output) in cases {
         assert!(rt; gives(rt.alloc(), input, output)?, "at {input}");
@@ -183,6 +184,7 @@ fn vectors_are_answered(rt: HostRuntime) -> Result<(), Fail> {
         ("induce 2 0 1 2^2", "[3,2] + [2^2,1]\n"),
         ("induce 2 0 2 2,1\n", "[3,2] + v[3,1^2] + v^2[2^2,1]\n"),
         ("induce 2 1 1 2^2\n", "0\n"),
+        ("induce 2 0 20 1\n", "0\n"),
         (
             "ladder 2 5\n",
             "[5] + [3,2] + 2v[3,1^2] + v^2[2^2,1] + v^2[1^5]\n",
@@ -206,9 +208,9 @@ fn refusals_name_the_first_fault(rt: HostRuntime) -> Result<(), Fail> {
         ),
         ("conjugate 1,3\n", "error 4 not a partition\n"),
         ("content 65 1\n", "error 5 e not in 2..64\n"),
-        ("conjugate 500\n", "error 6 degree past 20\n"),
-        ("partitions 21\n", "error 6 degree past 20\n"),
-        ("induce 2 0 20 1\n", "error 6 degree past 20\n"),
+        ("conjugate 500\n", "error 6 degree past 30\n"),
+        ("partitions 31\n", "error 6 degree past 30\n"),
+        ("induce 2 0 30 1\n", "error 6 degree past 30\n"),
         ("path 2 2^2\n", "error 7 not e-regular\n"),
         ("induce 2 2 1 1\n", "error 8 residue not below e\n"),
         ("conjugate 1\r\n", "error 13 byte not allowed\n"),
@@ -327,7 +329,7 @@ fn other_words_are_refused(rt: HostRuntime) -> Result<(), Fail> {
 
 #[test]
 fn rows_are_answered(rt: HostRuntime) -> Result<(), Fail> {
-    let cases: [(&'static [&'static str], &'static str, &'static str); 11] = [
+    let cases: [(&'static [&'static str], &'static str, &'static str); 12] = [
         (&[], "row 2 5\n", "[5] + v[3,1^2] + v^2[1^5]\n"),
         (&["--limit", "2"], "row 2 5\n", "error 9 too large\n"),
         (&["--limit=3"], "row 2 5\n", "[5] + v[3,1^2] + v^2[1^5]\n"),
@@ -347,7 +349,8 @@ fn rows_are_answered(rt: HostRuntime) -> Result<(), Fail> {
         ),
         (&[], "row 2 2^2\n", "error 7 not e-regular\n"),
         (&[], "row 65 1\n", "error 5 e not in 2..64\n"),
-        (&[], "row 2 21\n", "error 6 degree past 20\n"),
+        (&[], "row 2 31\n", "error 6 degree past 30\n"),
+        (&[], "row 30 30\n", "[30] + v[29,1]\n"),
         (
             &[],
             "row 2\nrow x 5\nrow 02 5\n",

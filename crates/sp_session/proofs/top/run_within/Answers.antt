@@ -1,6 +1,7 @@
 -- By the clauses of `Session::new` alone, whatever a session is.
-use Rattle.std.proofs.Common.{◌≡◌, ◌≤◌, List, ℕ, Option, length, subst, sym}
+use Rattle.std.proofs.Common.{◌≡◌, List, ℕ, Option, subst}
 use Rattle.sp_stream.specs.declared.status.Status.{Status}
+use Rattle.sp_stream.specs.Faults.{FaultsHaveCause, IsSteadyForAll}
 use Rattle.sp_stream.specs.Served.{Answered}
 use Rattle.sp_stream.specs.Transcript.{Rules, transcript}
 use Rattle.sp_session.proofs.top.run_within.Goals as goal
@@ -12,12 +13,16 @@ same_answered {State} rules now_rules state now input taken before written statu
     subst (λ (s : State). Answered rules s input taken before written status) state_is
     (subst (λ (r : Rules State). Answered r now input taken before written status) rules_is answered)
 
-same_transcript : {State : Type 0} (rules now_rules : Rules State) (state now : State) (input : List ℕ) (room : ℕ) →
-    now_rules ≡ rules → now ≡ state → length (transcript rules state input) ≤ room →
-    length (transcript now_rules now input) ≤ room
-same_transcript {State} rules now_rules state now input room rules_is state_is fits =
-    subst (λ (r : Rules State). length (transcript r now input) ≤ room) (sym rules_is)
-    (subst (λ (s : State). length (transcript rules s input) ≤ room) (sym state_is) fits)
+same_faults : {State : Type 0} (rules now_rules : Rules State) (state now : State) (left : Option (List ℕ))
+    (steady : ℕ → Type 0) (fault status : Status) (before after : ℕ) → now_rules ≡ rules → now ≡ state →
+    FaultsHaveCause fault status before after (IsSteadyForAll steady (transcript now_rules now) left) →
+    FaultsHaveCause fault status before after (IsSteadyForAll steady (transcript rules state) left)
+same_faults {State} rules now_rules state now left steady fault status before after rules_is state_is caused =
+    subst (λ (s : State). FaultsHaveCause fault status before after (IsSteadyForAll steady (transcript rules s) left))
+    state_is
+    (subst
+    (λ (r : Rules State). FaultsHaveCause fault status before after (IsSteadyForAll steady (transcript r now) left))
+    rules_is caused)
 
 pub returns-clause-told : goal.returns-clause-told
 returns-clause-told g c = λ input told.
@@ -30,8 +35,8 @@ returns-clause-told g c = λ input told.
           begun.rules begun.state (at.2 before is),
     )
 
-pub returns-clause-write_calm : goal.returns-clause-write_calm
-returns-clause-write_calm g c = λ input room told fits calm.
+pub returns-clause-write_faults : goal.returns-clause-write_faults
+returns-clause-write_faults g c =
     let begun = c.new-session.ensures in
-    c.serve.ensures.write_calm input room told
-    (same_transcript _ _ _ _ input room begun.rules begun.state fits) calm
+    same_faults _ _ _ _ (g.S.Source.left c.args.source.now) (g.K.Sink.steady c.args.sink.now) _ _ _ _
+    begun.rules begun.state c.serve.ensures.write_faults

@@ -1,0 +1,6 @@
+pub mod WordRows
+pub mod DominanceTest
+pub mod Finding
+pub mod Images
+pub mod Induced
+pub mod Ranking

@@ -1,0 +1,10 @@
+pub mod Words
+pub mod Faults
+pub mod Refusals
+pub mod Orders
+pub mod Diagrams
+pub mod Abacuses
+pub mod Signatures
+pub mod Vectors
+pub mod Rows
+pub mod Modules

@@ -1,0 +1,24 @@
+//! Replies that need no matrix: what a command on partitions, diagrams, vectors or one row is answered, and why a
+//! command is refused.
+#![tactic(auto)]
+
+mod abacuses;
+mod diagrams;
+mod faults;
+mod modules;
+mod orders;
+mod refusals;
+mod rows;
+mod signatures;
+mod vectors;
+mod words;
+
+pub use abacuses::{put_combined, put_core};
+pub use diagrams::put_content;
+pub use faults::put_fault;
+pub use modules::{put_dim, put_jantzen};
+pub use orders::{dominance_law, put_conjugate, put_dominance, put_partitions, put_regulars};
+pub use refusals::{Refusal, put_named, put_refusal};
+pub use rows::put_row;
+pub use signatures::{put_good, put_image, put_path};
+pub use vectors::{put_induced, put_ladder_vector, put_ladders};
