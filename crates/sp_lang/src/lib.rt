@@ -25,5 +25,4 @@ pub const LINE_LIMIT: usize = 4096;
 /// The limit on a line is 4 KiB.
 pub fn line_limit_law()
     ensures { LINE_LIMIT ≡ 4096 }
-{
-}
+{}

@@ -73,7 +73,11 @@ fn put_dims_fault(alloc: Global, fault: &DimsFault, out: &mut Vec<u8>) -> Result
     ensures memory { OnOk result (fault.now ≢ DimsFault.Memory) }
 {
     match fault {
-        DimsFault::TooLarge { at } => put_refusal(alloc, &Refusal::LargeColumn { column: *at }, out),
+        DimsFault::TooLarge { at } => put_refusal(
+            alloc,
+            &Refusal::LargeColumn { column: *at },
+            out,
+        ),
         DimsFault::Memory => Err(AllocError),
     }
 }

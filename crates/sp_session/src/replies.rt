@@ -12,9 +12,11 @@ use crate::tables::Subject;
 use sp_abacus::abacus_text;
 use sp_lang::{Command, LineFault, read_command};
 use sp_nodes::{diagram_text, hooks_text};
-use sp_replies::{put_combined, put_conjugate, put_content, put_core, put_dim, put_dominance, put_fault, put_good};
-use sp_replies::{put_image, put_induced, put_jantzen, put_ladder_vector, put_ladders, put_partitions, put_path};
-use sp_replies::{put_regulars, put_row};
+use sp_replies::{
+    put_combined, put_conjugate, put_content, put_core, put_dim, put_dominance, put_fault,
+    put_good, put_image, put_induced, put_jantzen, put_ladder_vector, put_ladders, put_partitions,
+    put_path, put_regulars, put_row,
+};
 use std::alloc::{AllocError, Global};
 
 /// Appends the reply to a line: the answer to its command, or its first fault. An `Err` leaves `out` and the painters
@@ -86,10 +88,24 @@ fn put_answer<F: Filler>(
             put_page(alloc, limit, filler, easel, &Subject::Crystal(*e, *n), out)
         }
         Command::Decomposition(e, n) => {
-            put_page(alloc, limit, filler, easel, &Subject::Decomposition(*e, *n), out)
+            put_page(
+                alloc,
+                limit,
+                filler,
+                easel,
+                &Subject::Decomposition(*e, *n),
+                out,
+            )
         }
         Command::Block(e, kappa, w) => {
-            put_page(alloc, limit, filler, easel, &Subject::Block(*e, *kappa, *w), out)
+            put_page(
+                alloc,
+                limit,
+                filler,
+                easel,
+                &Subject::Block(*e, *kappa, *w),
+                out,
+            )
         }
         Command::Jantzen(e, p) => put_jantzen(alloc, *e, p, out),
         Command::Schaper(e, n) => put_schaper(alloc, limit, filler, *e, *n, out),
