@@ -5,13 +5,14 @@ ghost use Rattle.std.specs.Prelude.{◌≡◌};
 
 mod command;
 mod fault;
+mod given;
 mod name;
 mod read;
 mod test;
 #[cfg(test)]
 mod tests;
+mod value;
 mod verb;
-mod word;
 mod words;
 
 pub use command::Command;
@@ -25,5 +26,4 @@ pub const LINE_LIMIT: usize = 4096;
 /// The limit on a line is 4 KiB.
 pub fn line_limit_law()
     ensures { LINE_LIMIT ≡ 4096 }
-{
-}
+{}
