@@ -1,53 +1,70 @@
 -- What a line says, and what holds of it.
-use Rattle.std.proofs.Common.{◌≡◌, ◌≢◌, ℕ, ◌<◌, ◌≤◌, Bool, true, false, cond, not, List, [], ◌∷◌, length, refl, sym}
+use Rattle.std.proofs.Common.{◌≡◌, ◌≢◌, ℕ, ◌<◌, ◌≤◌, true, false, cond, not, List, [], ◌∷◌, length, refl, sym}
 use Rattle.std.proofs.Common.{◌∙◌, ap, subst, eqb, nat_lt}
 use Rattle.std.proofs.lemmas.Bool.{cond_both, cond-true, cond-false, lt-ltb, le-ltb}
-use Rattle.std.proofs.lemmas.Option.{none-some, same_Some}
-use Rattle.std.specs.Prelude.{Option, Some, None, Result, Ok, Err, IfOk, codes, find}
-use Rattle.std.specs.List.{AllByRecursion, list_all, starts_with}
-use Rattle.std.specs.Option.{option_map}
+use Rattle.std.proofs.lemmas.List.{length-map}
+use Rattle.std.specs.Prelude.{Option, Some, None, Result, Ok, Err, IfOk, codes}
+use Rattle.std.specs.List.{list_all, starts_with}
 use Rattle.sp_lang.specs.Words.{is_allowed, words}
 use Rattle.sp_lang.specs.Commands.{verb_of, places_of, command_of}
-use Rattle.sp_lang.specs.Faults.{faults, first_fault}
+use Rattle.sp_lang.specs.Faults.{first_fault}
 use Rattle.sp_lang.specs.Given.{IsCommand, WantsMemory}
 use Rattle.sp_lang.specs.Reading.{or_fault, said_behind, said, reading}
-use Rattle.sp_lang.specs.Tests.{fitting_command}
+use Rattle.sp_lang.specs.Values.{given_command, read_all, words_of, first_failing}
+use Rattle.sp_lang.specs.declared.given.Given.{Given}
 use Rattle.sp_lang.specs.declared.TheConstants.{LINE_LIMIT}
 use Rattle.sp_lang.specs.declared.command.Command.{Command}
 use Rattle.sp_lang.specs.declared.command.Command.TheVariants.{Nothing}
 use Rattle.sp_lang.specs.declared.fault.LineFault.{LineFault}
-use Rattle.sp_lang.specs.declared.fault.LineFault.TheVariants.{LongLine, BadByte, Memory}
+use Rattle.sp_lang.specs.declared.fault.LineFault.TheVariants.{WordCount, LongLine, BadByte, Memory}
 use Rattle.sp_lang.specs.declared.verb.Place.{Place}
 use Rattle.sp_lang.specs.declared.verb.Verb.{Verb}
 use Rattle.sp_lang.specs.declared.verb.Verb.TheVariants.{Combine}
 use Rattle.sp_lang.proofs.Faultless.{faultless}
+use Rattle.sp_lang.proofs.ByPlace.{words_of-read_all}
+use Rattle.sp_lang.proofs.Order.{other_count, same_count}
 use Rattle.sp_lang.proofs.Fields.{exact, fields}
-
--- ---- want of memory is no fault of a line
-
-none_named : (fs : List (LineFault × Bool)) → AllByRecursion (λ f. f.0 ≡ Memory → ⊥) fs →
-    option_map (λ (f : LineFault × Bool). f.0) (find (λ f. f.1) fs) ≡ Some Memory → ⊥
-none_named [] others is = none-some Memory is
-none_named (f ∷ fs) others is = by_test f.1 (none_named fs others.1) is
-  where
-    by_test : (t : Bool) → (option_map (λ (f : LineFault × Bool). f.0) (find (λ f. f.1) fs) ≡ Some Memory → ⊥) →
-        option_map (λ (f : LineFault × Bool). f.0) (cond t (Some f) (find (λ f. f.1) fs)) ≡ Some Memory → ⊥
-    by_test true rest is = others.0 (same_Some f.0 Memory is)
-    by_test false rest is = rest is
-
--- Want of memory is no fault of a line.
-pub never_memory : (places : List Place) (ws : List (List ℕ)) → first_fault places ws ≡ Some Memory → ⊥
-unfolding first_fault
-never_memory places ws is =
-    none_named (faults places ws)
-    ((λ e. cc), ((λ e. cc), ((λ e. cc), ((λ e. cc), ((λ e. cc), ((λ e. cc), ((λ e. cc), ((λ e. cc), tt))))))))
-    is
 
 -- ---- behind the first word
 
+-- Another number of words is a fault.
+pub miscounted : (verb : Verb) (ws : List (List ℕ)) (places : List Place) → places ≡ places_of verb →
+    length ws ≢ length places → Err WordCount ≡ or_fault (command_of verb ws) (first_fault (places_of verb) ws)
+miscounted verb ws places of_verb other =
+    ap (or_fault (command_of verb ws))
+    (other_count (places_of verb) ws (λ e. other (e ∙ sym (ap length of_verb))))
+
+-- As many words as there are places are kept in order, and none is lost.
+pub record Read (verb : Verb) (ws : List (List ℕ)) (given : List Given) : Type 0 where
+  pub words : words_of given ≡ ws
+  pub count : length given ≡ length (places_of verb)
+  pub own : given ≡ read_all (places_of verb) (words_of given)
+
+-- The words, read place by place, are such.
+pub all_read : (verb : Verb) (ws : List (List ℕ)) (places : List Place) (items given : List Given) →
+    places ≡ places_of verb → (length ws ≡ length places) × (items ≡ read_all places ws) → given ≡ items →
+    Read verb ws given
+all_read verb ws places items given of_verb read is =
+    let count : length ws ≡ length (places_of verb) = read.0 ∙ ap length of_verb in
+    let all : given ≡ read_all (places_of verb) ws = is ∙ read.1 ∙ ap (λ ps. read_all ps ws) of_verb in
+    let same : words_of given ≡ ws = ap words_of all ∙ words_of-read_all (places_of verb) ws count in
+    record {
+      words = same;
+      count = sym (length-map given (λ one. one.word)) ∙ ap length same ∙ count;
+      own = all ∙ ap (read_all (places_of verb)) (sym same);
+    }
+
+-- The tests find the first fault of the words that were read.
+pub tested : (verb : Verb) (given : List Given) → length given ≡ length (places_of verb) →
+    given ≡ read_all (places_of verb) (words_of given) →
+    first_failing given ≡ first_fault (places_of verb) (words_of given)
+tested verb given count own =
+    ap first_failing own
+    ∙ same_count verb (words_of given) (length-map given (λ one. one.word) ∙ count)
+
 -- Words without a fault say their command.
 pub answered : (verb : Verb) (ws : List (List ℕ)) (command : Command) → None ≡ first_fault (places_of verb) ws →
-    command ≡ fitting_command verb ws →
+    command ≡ given_command verb (read_all (places_of verb) ws) →
     Ok command ≡ or_fault (command_of verb ws) (first_fault (places_of verb) ws)
 answered verb ws command none is =
     ap Ok (is ∙ exact verb ws (faultless (places_of verb) ws (sym none)))

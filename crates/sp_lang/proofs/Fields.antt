@@ -1,34 +1,55 @@
 -- The fields of a command whose words have no fault.
-use Rattle.std.proofs.Common.{◌≡◌, ℕ, List, refl, sym, ap, ap₂, arith, slice_get}
+use Rattle.std.proofs.Common.{◌≡◌, ℕ, ◌≤◌, List, refl, sym, ◌∙◌, ap, ap₂, arith, slice_get}
 use Rattle.std.specs.Prelude.{Some}
-use Rattle.sp_lang.specs.Commands.{places_of, command_of, number, partition, word_at}
+use Rattle.sp_lang.specs.Commands.{places_of, command_of, number, partition, weight, word_at}
 use Rattle.sp_lang.specs.Given.{IsCommand, IsWithE, IsLabel}
-use Rattle.sp_lang.specs.Tests.{byte, fitting, fitting_command}
+use Rattle.sp_lang.specs.Values.{number_read, partition_read, value_of, value_at, byte_said, partition_said}
+use Rattle.sp_lang.specs.Values.{fitting, all_fitting, read_all, words_of, given_command}
 use Rattle.sp_lang.specs.declared.command.Command.TheVariants as command
 use Rattle.sp_lang.specs.declared.verb.Place.{Place}
-use Rattle.sp_lang.specs.declared.verb.Place.TheVariants.{E, Degree, Partition, Label}
+use Rattle.sp_lang.specs.declared.verb.Place.TheVariants.{E, Residue, Count, Degree, Partition, Peer, Grown, Label}
 use Rattle.sp_lang.specs.declared.verb.Verb.{Verb}
 use Rattle.sp_lang.specs.declared.verb.Verb.TheVariants.{Partitions, Regular, Conjugate, Dominates, Diagram, Hooks}
 use Rattle.sp_lang.specs.declared.verb.Verb.TheVariants.{Content, Core, Combine, Abacus, Good, Path, Mullineux}
 use Rattle.sp_lang.specs.declared.verb.Verb.TheVariants.{Induce, Ladders, Ladder, Row, Crystal, Decomposition}
 use Rattle.sp_lang.specs.declared.verb.Verb.TheVariants.{Block, Painter, Jantzen, Schaper, Dim, Dims}
 use Rattle.sp_lang.proofs.Faultless.{Faultless}
-use Rattle.sp_lang.proofs.Right.{IsGiven-fits, byte-small, e_at, residue_at, degree_at, partition_at, peer_at, grown_at}
+use Rattle.sp_lang.proofs.ByPlace.{value_there, words_of-read_all, byte_exact, partition_fitting}
+use Rattle.sp_lang.proofs.Right.{IsGiven-fits, e_at, residue_at, degree_at, partition_at, peer_at, grown_at}
 use Rattle.sp_lang.proofs.Right.{label_at, quotient_at, weight-small}
 
 module _ (places : List Place) (ws : List (List ℕ)) (f : Faultless places ws) where
-  exact_e : slice_get places 0 ≡ Some E → byte (word_at ws 0) ≡ number (word_at ws 0)
-  exact_e at = byte-small (word_at ws 0) (let e = e_at places ws f 0 at in omega (arith, e.high))
+  exact_number : (k : ℕ) (place : Place) → slice_get places k ≡ Some place →
+      value_of place (word_at ws k) ≡ number_read (word_at ws k) → number (word_at ws k) ≤ 255 →
+      byte_said (value_at (read_all places ws) k) ≡ number (word_at ws k)
+  exact_number k place at is few =
+      ap byte_said (value_there places ws k place f.count at ∙ is) ∙ byte_exact (word_at ws k) few
 
-  exact_degree : (k : ℕ) → slice_get places k ≡ Some Degree → byte (word_at ws k) ≡ number (word_at ws k)
-  exact_degree k at = byte-small (word_at ws k) (omega (arith, degree_at places ws f k at))
+  exact_parts : (k : ℕ) (place : Place) → slice_get places k ≡ Some place →
+      value_of place (word_at ws k) ≡ partition_read (word_at ws k) →
+      fitting (word_at ws k) ≡ partition (word_at ws k) →
+      partition_said (value_at (read_all places ws) k) ≡ partition (word_at ws k)
+  exact_parts k place at is fits =
+      ap partition_said (value_there places ws k place f.count at ∙ is) ∙ partition_fitting (word_at ws k) ∙ fits
+
+  exact_e : slice_get places 0 ≡ Some E → byte_said (value_at (read_all places ws) 0) ≡ number (word_at ws 0)
+  exact_e at = exact_number 0 E at refl (let e = e_at places ws f 0 at in omega (arith, e.high))
+
+  exact_degree : (k : ℕ) → slice_get places k ≡ Some Degree →
+      byte_said (value_at (read_all places ws) k) ≡ number (word_at ws k)
+  exact_degree k at = exact_number k Degree at refl (omega (arith, degree_at places ws f k at))
 
   exact_partition : (k : ℕ) → slice_get places k ≡ Some Partition →
-      fitting (word_at ws k) ≡ partition (word_at ws k)
-  exact_partition k at = IsGiven-fits (word_at ws k) (partition_at places ws f k at)
+      partition_said (value_at (read_all places ws) k) ≡ partition (word_at ws k)
+  exact_partition k at =
+      exact_parts k Partition at refl (IsGiven-fits (word_at ws k) (partition_at places ws f k at))
 
-  exact_label : (k : ℕ) → slice_get places k ≡ Some Label → fitting (word_at ws k) ≡ partition (word_at ws k)
-  exact_label k at = IsGiven-fits (word_at ws k) (label_at places ws f k at).0
+  exact_label : (k : ℕ) → slice_get places k ≡ Some Label →
+      partition_said (value_at (read_all places ws) k) ≡ partition (word_at ws k)
+  exact_label k at = exact_parts k Label at refl (IsGiven-fits (word_at ws k) (label_at places ws f k at).0)
+
+  exact_word : (k : ℕ) → word_at (words_of (read_all places ws)) k ≡ word_at ws k
+  exact_word k = ap (λ words. word_at words k) (words_of-read_all places ws f.count)
 
   with_e : slice_get places 0 ≡ Some E → slice_get places 1 ≡ Some Partition →
       IsWithE (number (word_at ws 0)) (partition (word_at ws 1))
@@ -42,36 +63,40 @@ module _ (places : List Place) (ws : List (List ℕ)) (f : Faultless places ws) 
 
 -- Words without a fault are read exactly.
 pub exact : (verb : Verb) (ws : List (List ℕ)) → Faultless (places_of verb) ws →
-    fitting_command verb ws ≡ command_of verb ws
+    given_command verb (read_all (places_of verb) ws) ≡ command_of verb ws
 unfolding command_of
 exact Partitions ws f = ap command.Partitions (exact_degree _ ws f 0 refl)
 exact Regular ws f = ap₂ command.Regular (exact_e _ ws f refl) (exact_degree _ ws f 1 refl)
 exact Conjugate ws f = ap command.Conjugate (exact_partition _ ws f 0 refl)
 exact Dominates ws f =
-    ap₂ command.Dominates (exact_partition _ ws f 0 refl) (IsGiven-fits (word_at ws 1) (peer_at _ ws f 1 refl).0)
+    ap₂ command.Dominates (exact_partition _ ws f 0 refl)
+    (exact_parts _ ws f 1 Peer refl refl (IsGiven-fits (word_at ws 1) (peer_at _ ws f 1 refl).0))
 exact Diagram ws f = ap₂ command.Diagram (exact_e _ ws f refl) (exact_partition _ ws f 1 refl)
 exact Hooks ws f = ap command.Hooks (exact_partition _ ws f 0 refl)
 exact Content ws f = ap₂ command.Content (exact_e _ ws f refl) (exact_partition _ ws f 1 refl)
 exact Core ws f = ap₂ command.Core (exact_e _ ws f refl) (exact_partition _ ws f 1 refl)
 exact Combine ws f =
-    cc (exact_e _ ws f refl, exact_partition _ ws f 1 refl, (quotient_at _ ws f 2 refl).1)
+    let quotient = ap all_fitting (exact_word _ ws f 2) ∙ (quotient_at _ ws f 2 refl).1 in
+    cc (exact_e _ ws f refl, exact_partition _ ws f 1 refl, quotient)
 exact Abacus ws f = ap₂ command.Abacus (exact_e _ ws f refl) (exact_partition _ ws f 1 refl)
 exact Good ws f = ap₂ command.Good (exact_e _ ws f refl) (exact_partition _ ws f 1 refl)
 exact Path ws f = ap₂ command.Path (exact_e _ ws f refl) (exact_label _ ws f 1 refl)
 exact Mullineux ws f = ap₂ command.Mullineux (exact_e _ ws f refl) (exact_label _ ws f 1 refl)
 exact Induce ws f =
     let grown = grown_at _ ws f 3 refl in
-    let i : byte (word_at ws 1) ≡ number (word_at ws 1) = byte-small (word_at ws 1)
+    let i = exact_number _ ws f 1 Residue refl refl
     (let e = e_at _ ws f 0 refl in omega (arith, e.high, residue_at _ ws f 1 refl)) in
-    let m : byte (word_at ws 2) ≡ number (word_at ws 2) = byte-small (word_at ws 2) (omega (arith, grown.1)) in
-    cc (exact_e _ ws f refl, i, m, grown.2)
+    let m = exact_number _ ws f 2 Count refl refl (omega (arith, grown.1)) in
+    cc (exact_e _ ws f refl, i, m, exact_parts _ ws f 3 Grown refl refl grown.2)
 exact Ladders ws f = ap₂ command.Ladders (exact_e _ ws f refl) (exact_label _ ws f 1 refl)
 exact Ladder ws f = ap₂ command.Ladder (exact_e _ ws f refl) (exact_label _ ws f 1 refl)
 exact Row ws f = ap₂ command.Row (exact_e _ ws f refl) (exact_label _ ws f 1 refl)
 exact Crystal ws f = ap₂ command.Crystal (exact_e _ ws f refl) (exact_degree _ ws f 1 refl)
 exact Decomposition ws f = ap₂ command.Decomposition (exact_e _ ws f refl) (exact_degree _ ws f 1 refl)
-exact Block ws f = cc (exact_e _ ws f refl, exact_partition _ ws f 1 refl)
-exact Painter ws f = refl
+exact Block ws f =
+    let w = ap weight (exact_word _ ws f 2) in
+    cc (exact_e _ ws f refl, exact_partition _ ws f 1 refl, w)
+exact Painter ws f = ap command.Painter (exact_word _ ws f 0)
 exact Jantzen ws f = ap₂ command.Jantzen (exact_e _ ws f refl) (exact_partition _ ws f 1 refl)
 exact Schaper ws f = ap₂ command.Schaper (exact_e _ ws f refl) (exact_degree _ ws f 1 refl)
 exact Dim ws f = ap command.Dim (exact_partition _ ws f 0 refl)

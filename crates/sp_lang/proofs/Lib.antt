@@ -1,5 +1,6 @@
 pub mod Splitting
 pub mod Digits
+pub mod ByPlace
 pub mod Faultless
 pub mod Right
 pub mod Fields

@@ -15,7 +15,7 @@ use Rattle.sp_lang.specs.Commands.{number, partition, partitions, weight, word_a
 use Rattle.sp_lang.specs.Faults.{says, is_e, is_past, is_no_number, is_no_partition, is_no_e, passes_limit}
 use Rattle.sp_lang.specs.Faults.{is_of_other_degree, is_no_residue, is_irregular, any_word}
 use Rattle.sp_lang.specs.Given.{IsE, IsGiven}
-use Rattle.sp_lang.specs.Tests.{byte, fitting, all_fitting}
+use Rattle.sp_lang.specs.Values.{fitting, all_fitting}
 use Rattle.sp_lang.specs.declared.verb.Place.{Place}
 use Rattle.sp_lang.specs.declared.verb.Place.TheVariants.{E, Residue, Degree, Partition, Peer, Grown, Label}
 use Rattle.sp_lang.specs.declared.verb.Place.TheVariants.{Quotient}
@@ -51,15 +51,9 @@ fits word more few =
     cond-true (nat_le (degree (partition word)) CAPACITY) (partition word) []
     (le-leb (degree (partition word)) CAPACITY (omega (arith, few)))
 
+-- A partition that is taken fits.
 pub IsGiven-fits : (word : List ℕ) → IsGiven (partition word) → fitting word ≡ partition word
 IsGiven-fits word is = fits word 0 (let few = is.small in omega (arith, few))
-
--- A number that fits a byte is read exactly.
-pub byte-small : (word : List ℕ) → number word ≤ 255 → byte word ≡ number word
-byte-small word few = least (number word) few
-  where
-    least : (n : ℕ) → n ≤ 255 → min n 255 ≡ n
-    least n few = omega arith
 
 -- A weight fits 64 bits.
 pub weight-small : (word : List ℕ) → weight word < 2 ^ 64

@@ -3,4 +3,4 @@ pub mod Commands
 pub mod Faults
 pub mod Reading
 pub mod Given
-pub mod Tests
+pub mod Values

@@ -5,13 +5,14 @@ ghost use Rattle.std.specs.Prelude.{◌≡◌};
 
 mod command;
 mod fault;
+mod given;
 mod name;
 mod read;
 mod test;
 #[cfg(test)]
 mod tests;
+mod value;
 mod verb;
-mod word;
 mod words;
 
 pub use command::Command;

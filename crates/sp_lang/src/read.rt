@@ -1,19 +1,20 @@
 // A line as a command.
-ghost use Rattle.std.specs.Prelude.{◌≡◌, ◌≢◌, IfOk, OnErr, find};
+ghost use Rattle.std.specs.Prelude.{◌≡◌, ◌≢◌, IfOk, OnErr, find, length};
 ghost use Rattle.std.specs.List.{list_all};
 ghost use Rattle.sp_lang.specs.Words.{words, is_allowed as allowed};
-ghost use Rattle.sp_lang.specs.Commands.{verb_of as verb_named, places_of};
-ghost use Rattle.sp_lang.specs.Faults.{any_word, first_fault as first_fault_of};
+ghost use Rattle.sp_lang.specs.Commands.{verb_of as verb_named, places_of, word_at as word_in, weight as weight_of};
 ghost use Rattle.sp_lang.specs.Reading.{reading, said as said_by, said_behind as said_behind_by};
 ghost use Rattle.sp_lang.specs.Given.{IsCommand, WantsMemory};
-ghost use Rattle.sp_lang.specs.Tests.{fails, fitting_command, tests_of as tests_by, first_failing as first_failing_of};
+ghost use Rattle.sp_lang.specs.Values.{read_all, words_of, any_given, fails, tests_of as tests_by, first_failing};
+ghost use Rattle.sp_lang.specs.Values.{given_command};
 
+use crate::given::{Given, read_words, value_at, word_at};
 use crate::test::{Test, any_fails};
-use crate::verb::{Place, VERBS, Verb};
-use crate::word::{all_fitting, byte, fitting, weight};
-use crate::words::{split_word, word_at, word_count};
+use crate::value::all_fitting;
+use crate::verb::{VERBS, Verb};
+use crate::words::split_word;
 use crate::{Command, LINE_LIMIT, LineFault, Name};
-use sp_partition::{Items, Partition};
+use sp_partition::Items;
 use std::alloc::{AllocError, Global};
 
 /// The one command that a line says, or its first fault.
@@ -73,70 +74,74 @@ fn said_behind(alloc: Global, verb: Verb, rest: &[u8]) -> Result<Command<'_>, Li
     ensures reads { result ≢ Err LineFault.Memory → result ≡ said_behind_by (Some verb) (words rest.now) }
     ensures memory { result ≡ Err LineFault.Memory → WantsMemory (said_behind_by (Some verb) (words rest.now)) }
 {
-    match first_fault(verb, rest) {
-        Some(fault) => Err(fault),
-        None => match command(alloc, verb, rest) {
-            Ok(command) => Ok(command),
-            Err(_) => Err(LineFault::Memory),
-        },
+    match read_words(verb.places(), rest) {
+        Some(given) => said_by_all(alloc, verb, given.as_slice()),
+        None => Err(LineFault::WordCount),
     }
 }
 
-fn first_fault(verb: Verb, text: &[u8]) -> Option<LineFault>
-    ensures { result ≡ first_fault_of (places_of verb) (words text.now) }
+// What as many words say as there are places.
+fn said_by_all<'a>(alloc: Global, verb: Verb, given: &[Given<'a>]) -> Result<Command<'a>, LineFault>
+    requires count { length given.now ≡ length (places_of verb) }
+    requires read { given.now ≡ read_all (places_of verb) (words_of given.now) }
+    ensures reads { result ≢ Err LineFault.Memory → result ≡ said_behind_by (Some verb) (words_of given.now) }
+    ensures memory { result ≡ Err LineFault.Memory → WantsMemory (said_behind_by (Some verb) (words_of given.now)) }
 {
-    let places = verb.places();
-    if word_count(text) != places.len() {
-        return Some(LineFault::WordCount);
+    if let Some(fault) = first_fault(given) {
+        return Err(fault);
     }
-    first_failing(places, text)
+    match command(alloc, verb, given) {
+        Ok(command) => Ok(command),
+        Err(_) => Err(LineFault::Memory),
+    }
 }
 
 // The first fault of as many words as there are places.
-fn first_failing(places: &[Place], text: &[u8]) -> Option<LineFault>
-    ensures { result ≡ first_failing_of places.now (words text.now) }
+fn first_fault(given: &[Given]) -> Option<LineFault>
+    ensures { result ≡ first_failing given.now }
 {
-    let tests = tests_of(text);
-    match first_of(&tests, places, text) {
+    let tests = tests_of(given);
+    match first_of(&tests, given) {
         Some((_, fault)) => Some(fault),
         None => None,
     }
 }
 
 // The tests in their order, and the faults that they find.
-fn tests_of(text: &[u8]) -> [(Test, LineFault); 7]
-    ensures { result ≡ tests_by (words text.now) }
+fn tests_of(given: &[Given]) -> [(Test, LineFault); 7]
+    ensures { result ≡ tests_by given.now }
 {
-    let first = word_at(text, 0);
-    let third = word_at(text, 2);
+    let first = value_at(given, 0);
+    let third = value_at(given, 2);
     [
         (Test::Number, LineFault::NotNumber),
         (Test::Partition, LineFault::BadPartition),
         (Test::E, LineFault::BadE),
-        (Test::Degree(byte(third)), LineFault::DegreePast),
-        (Test::Peer(fitting(first)), LineFault::DegreesDiffer),
-        (Test::Residue(byte(first)), LineFault::BadResidue),
-        (Test::Regular(byte(first)), LineFault::NotRegular),
+        (Test::Degree(third.byte()), LineFault::DegreePast),
+        (
+            Test::Peer(first.partition().degree()),
+            LineFault::DegreesDiffer,
+        ),
+        (Test::Residue(first.byte()), LineFault::BadResidue),
+        (Test::Regular(first.byte()), LineFault::NotRegular),
     ]
 }
 
 // The first of the tests that finds a word wrong, and its fault.
-fn first_of(tests: &[(Test, LineFault)], places: &[Place], text: &[u8]) -> Option<(Test, LineFault)>
-    ensures { result ≡ find (λ test. any_word (fails test.0) places.now (words text.now)) tests.now }
+fn first_of(tests: &[(Test, LineFault)], given: &[Given]) -> Option<(Test, LineFault)>
+    ensures { result ≡ find (λ test. any_given (fails test.0) given.now) tests.now }
 {
-    tests
-        .iter()
-        .find(|test| any_fails(test.0, places, text))
-        .copied()
+    tests.iter().find(|test| any_fails(test.0, given)).copied()
 }
 
 // The command, where its words have no fault.
-fn command(alloc: Global, verb: Verb, text: &[u8]) -> Result<Command<'_>, AllocError>
-    ensures exact { IfOk result (λ command. command ≡ fitting_command verb (words text.now)) }
+fn command<'a>(alloc: Global, verb: Verb, given: &[Given<'a>]) -> Result<Command<'a>, AllocError>
+    requires { given.now ≡ read_all (places_of verb) (words_of given.now) }
+    ensures exact { IfOk result (λ command. command ≡ given_command verb given.now) }
     ensures memory { OnErr result (verb ≡ Verb.Combine) }
 {
-    let number = |place| byte(word_at(text, place));
-    let partition = |place| fitting(word_at(text, place));
+    let number = |place| value_at(given, place).byte();
+    let partition = |place| value_at(given, place).partition();
     Ok(match verb {
         Verb::Partitions => Command::Partitions(number(0)),
         Verb::Regular => Command::Regular(number(0), number(1)),
@@ -147,7 +152,7 @@ fn command(alloc: Global, verb: Verb, text: &[u8]) -> Result<Command<'_>, AllocE
         Verb::Content => Command::Content(number(0), partition(1)),
         Verb::Core => Command::Core(number(0), partition(1)),
         Verb::Combine => {
-            let quotient = all_fitting(alloc, word_at(text, 2))?;
+            let quotient = all_fitting(alloc, word_at(given, 2))?;
             Command::Combine(number(0), partition(1), Items::of(quotient))
         }
         Verb::Abacus => Command::Abacus(number(0), partition(1)),
@@ -160,11 +165,19 @@ fn command(alloc: Global, verb: Verb, text: &[u8]) -> Result<Command<'_>, AllocE
         Verb::Row => Command::Row(number(0), partition(1)),
         Verb::Crystal => Command::Crystal(number(0), number(1)),
         Verb::Decomposition => Command::Decomposition(number(0), number(1)),
-        Verb::Block => Command::Block(number(0), partition(1), weight(word_at(text, 2))),
-        Verb::Painter => Command::Painter(Name::of(word_at(text, 0))),
+        Verb::Block => Command::Block(number(0), partition(1), weight(given)),
+        Verb::Painter => Command::Painter(Name::of(word_at(given, 0))),
         Verb::Jantzen => Command::Jantzen(number(0), partition(1)),
         Verb::Schaper => Command::Schaper(number(0), number(1)),
         Verb::Dim => Command::Dim(partition(0)),
         Verb::Dims => Command::Dims(number(0), number(1)),
     })
+}
+
+// The weight of a block.
+fn weight(given: &[Given]) -> u64
+    requires { given.now ≡ read_all (places_of Verb.Block) (words_of given.now) }
+    ensures { result ≡ weight_of (word_in (words_of given.now) 2) }
+{
+    value_at(given, 2).number()
 }

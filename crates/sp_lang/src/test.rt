@@ -1,18 +1,13 @@
 // What can be wrong with the words of a command.
-ghost use Rattle.std.specs.Prelude.{◌≡◌, ◌&&◌, ◌≤◌, length, nat_le};
-ghost use Rattle.sp_defs.specs.Partition.{degree};
-ghost use Rattle.sp_lang.specs.Words.{words};
-ghost use Rattle.sp_lang.specs.Faults.{is_no_number as no_number, is_no_partition as no_partition_in, is_no_e as no_e};
-ghost use Rattle.sp_lang.specs.Faults.{passes_limit as beyond, is_of_other_degree, is_no_residue as no_residue};
-ghost use Rattle.sp_lang.specs.Faults.{any_word};
-ghost use Rattle.sp_lang.specs.Tests.{fails as wrong, has_irregular as irregular};
+ghost use Rattle.std.specs.Prelude.{◌≡◌, ◌≤◌};
+ghost use Rattle.sp_lang.specs.Values.{any_given, fails as wrong, is_missing as missing, is_shapeless as shapeless};
+ghost use Rattle.sp_lang.specs.Values.{is_bad_e as bad_e, is_large as large, is_uneven as uneven};
+ghost use Rattle.sp_lang.specs.Values.{is_bad_residue as bad_residue, is_irregular as irregular};
 
+use crate::given::Given;
+use crate::value::{Value, exceeds};
 use crate::verb::Place;
-use crate::word::{
-    any_no_partition, any_past, is_irregular, is_no_partition, is_past, is_uneven, number,
-};
-use crate::words::Words;
-use sp_partition::{DEGREE_LIMIT, Partition};
+use sp_partition::{DEGREE_LIMIT, NotPartition};
 
 /// What is asked of the words.
 #[derive(Clone, Copy)]
@@ -25,8 +20,8 @@ pub enum Test {
     E,
     /// That no degree is past the limit. Grown partitions have so many nodes more.
     Degree(u8),
-    /// That peers are of the degree of this partition.
-    Peer(Partition),
+    /// That peers are of this degree.
+    Peer(u8),
     /// That residues are below this e.
     Residue(u8),
     /// That labels are e-regular, for this e of at least 2.
@@ -34,94 +29,89 @@ pub enum Test {
 }
 
 /// Whether a word is wrong in its place.
-pub(crate) fn any_fails(test: Test, places: &[Place], text: &[u8]) -> bool
-    ensures { result ≡ any_word (wrong test) places.now (words text.now) }
+pub(crate) fn any_fails(test: Test, given: &[Given]) -> bool
+    ensures { result ≡ any_given (wrong test) given.now }
 {
-    places
-        .iter()
-        .zip(Words(text))
-        .any(|(place, word)| fails(test, *place, word))
+    given.iter().any(|one| fails(test, one.place, &one.value))
 }
 
-fn fails(test: Test, place: Place, word: &[u8]) -> bool
-    ensures { result ≡ wrong test place word.now }
+fn fails(test: Test, place: Place, value: &Value) -> bool
+    ensures { result ≡ wrong test place value.now }
 {
     match test {
-        Test::Number => is_no_number(place, word),
-        Test::Partition => is_no_partition_in(place, word),
-        Test::E => is_no_e(place, word),
-        Test::Degree(more) => passes_limit(more, place, word),
-        Test::Peer(p) => is_no_peer(&p, place, word),
-        Test::Residue(e) => is_no_residue(e, place, word),
-        Test::Regular(e) => has_irregular(e, place, word),
+        Test::Number => is_missing(value),
+        Test::Partition => is_shapeless(value),
+        Test::E => is_bad_e(place, value),
+        Test::Degree(more) => is_large(more, place, value),
+        Test::Peer(degree) => is_uneven(degree, place, value),
+        Test::Residue(e) => is_bad_residue(e, place, value),
+        Test::Regular(e) => is_irregular(e, place, value),
     }
 }
 
-fn is_no_number(place: Place, word: &[u8]) -> bool
-    ensures { result ≡ no_number place word.now }
+fn is_missing(value: &Value) -> bool
+    ensures { result ≡ missing value.now }
 {
-    match place {
-        Place::E | Place::Residue | Place::Count | Place::Degree | Place::Weight => {
-            number(word).is_none()
-        }
+    match value {
+        Value::Number(n) => n.is_none(),
         _ => false,
     }
 }
 
-fn is_no_partition_in(place: Place, word: &[u8]) -> bool
-    ensures { result ≡ no_partition_in place word.now }
+fn is_shapeless(value: &Value) -> bool
+    ensures { result ≡ shapeless value.now }
 {
-    match place {
-        Place::Partition | Place::Peer | Place::Grown | Place::Label => is_no_partition(word),
-        Place::Quotient => any_no_partition(word),
+    match value {
+        Value::Partition(Err(NotPartition::Shape)) => true,
+        Value::Quotient(pieces) => pieces.any_shapeless,
         _ => false,
     }
 }
 
-fn is_no_e(place: Place, word: &[u8]) -> bool
-    ensures { result ≡ no_e place word.now }
+fn is_bad_e(place: Place, value: &Value) -> bool
+    ensures { result ≡ bad_e place value.now }
 {
-    match place {
-        Place::E => number(word).is_some_and(|e| e < 2 || e > 64),
+    match (place, value) {
+        (Place::E, Value::Number(Some(e))) => *e < 2 || *e > 64,
         _ => false,
     }
 }
 
-fn passes_limit(more: u8, place: Place, word: &[u8]) -> bool
-    ensures { result ≡ beyond more place word.now }
+fn is_large(more: u8, place: Place, value: &Value) -> bool
+    ensures { result ≡ large more place value.now }
 {
-    match place {
-        Place::Degree => number(word).is_some_and(|n| n > DEGREE_LIMIT),
-        Place::Partition | Place::Peer | Place::Label => is_past(0, word),
-        Place::Grown => is_past(more, word),
-        Place::Quotient => any_past(word),
+    match (place, value) {
+        (Place::Degree, Value::Number(Some(n))) => *n > u64::from(DEGREE_LIMIT),
+        (Place::Grown, Value::Partition(read)) => exceeds(more, read),
+        (_, Value::Partition(read)) => exceeds(0, read),
+        (_, Value::Quotient(pieces)) => pieces.any_past,
         _ => false,
     }
 }
 
-fn is_no_peer(p: &Partition, place: Place, word: &[u8]) -> bool
-    ensures { result ≡ is_of_other_degree (degree p.now) place word.now }
+fn is_uneven(degree: u8, place: Place, value: &Value) -> bool
+    ensures { result ≡ uneven degree place value.now }
 {
-    match place {
-        Place::Peer => is_uneven(p, word),
+    match (place, value) {
+        (Place::Peer, Value::Partition(Ok(p))) => p.degree() != degree,
         _ => false,
     }
 }
 
-fn is_no_residue(e: u8, place: Place, word: &[u8]) -> bool
-    ensures { result ≡ no_residue e place word.now }
+fn is_bad_residue(e: u8, place: Place, value: &Value) -> bool
+    ensures { result ≡ bad_residue e place value.now }
 {
-    match place {
-        Place::Residue => number(word).is_some_and(|i| i >= e),
+    match (place, value) {
+        (Place::Residue, Value::Number(Some(i))) => *i >= u64::from(e),
         _ => false,
     }
 }
 
-fn has_irregular(e: u8, place: Place, word: &[u8]) -> bool
-    ensures { result ≡ irregular e place word.now }
+fn is_irregular(e: u8, place: Place, value: &Value) -> bool
+    ensures { result ≡ irregular e place value.now }
 {
-    match place {
-        Place::Label => 2 <= e && is_irregular(e, word),
+    match (place, value) {
+        (Place::Label, Value::Partition(Ok(p))) => 2 <= e && !p.is_regular(e),
         _ => false,
     }
 }

@@ -2,7 +2,7 @@ use Rattle.std.proofs.Common.{rules, tests, eqb}
 use Rattle.std.proofs.lemmas.Iterator.Search.{any_from_yields_List}
 use Rattle.std.proofs.lemmas.Iterator.Splits.{YieldsList-from_slice_split}
 use Rattle.sp_lang.specs.Faults.{is_past}
-use Rattle.sp_lang.proofs.word.any_past.Goals as goal
+use Rattle.sp_lang.proofs.value.any_past.Goals as goal
 
 pub returns : goal.returns
 returns c =

@@ -2,8 +2,8 @@ use Rattle.std.proofs.Common.{rules, tests, eqb}
 use Rattle.std.proofs.lemmas.Iterator.{YieldsList-from_map, items_from_collect}
 use Rattle.std.proofs.lemmas.Iterator.Consumers.{YieldsList-at}
 use Rattle.std.proofs.lemmas.Iterator.Splits.{YieldsList-from_slice_split}
-use Rattle.sp_lang.specs.Tests.{fitting}
-use Rattle.sp_lang.proofs.word.all_fitting.Goals as goal
+use Rattle.sp_lang.specs.Values.{fitting}
+use Rattle.sp_lang.proofs.value.all_fitting.Goals as goal
 
 pub returns : goal.returns
 returns c =

@@ -3,7 +3,7 @@ use Rattle.std.proofs.lemmas.Iterator.Search.{any_from_yields_List}
 use Rattle.std.proofs.lemmas.Iterator.Splits.{YieldsList-from_slice_split}
 use Rattle.std.specs.Prelude.{is_none}
 use Rattle.sp_partition.specs.Reading.{partition_of}
-use Rattle.sp_lang.proofs.word.any_no_partition.Goals as goal
+use Rattle.sp_lang.proofs.value.any_shapeless.Goals as goal
 
 pub returns : goal.returns
 returns c =

@@ -1,0 +1,23 @@
+use Rattle.std.proofs.Common.{◌∙◌, ap}
+use Rattle.sp_lang.specs.Commands.{command_of}
+use Rattle.sp_lang.specs.Reading.{or_fault}
+use Rattle.sp_lang.specs.Values.{given_command, words_of}
+use Rattle.sp_lang.proofs.Answered.{tested, answered, wanted}
+use Rattle.sp_lang.proofs.read.said_by_all.Goals as goal
+
+pub returns-in-Some-clause-reads : goal.returns-in-Some-clause-reads
+returns-in-Some-clause-reads c other =
+    ap (or_fault (command_of c.args.verb (words_of c.args.given.now)))
+    (c.in-Some.ensures ∙ tested c.args.verb c.args.given.now c.requires.count c.requires.read)
+
+pub returns-in-Ok-clause-reads : goal.returns-in-Ok-clause-reads
+returns-in-Ok-clause-reads c other =
+    answered c.args.verb (words_of c.args.given.now) c.in-Ok.command
+    (c.in_default.ensures ∙ tested c.args.verb c.args.given.now c.requires.count c.requires.read)
+    (c.in-Ok.ensures.exact ∙ ap (given_command c.args.verb) c.requires.read)
+
+pub returns-in-Err-clause-memory : goal.returns-in-Err-clause-memory
+returns-in-Err-clause-memory c is =
+    wanted c.args.verb (words_of c.args.given.now)
+    (c.in_default.ensures ∙ tested c.args.verb c.args.given.now c.requires.count c.requires.read)
+    c.in-Err.ensures.memory
