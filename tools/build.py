@@ -101,8 +101,10 @@ class Lane:
         self.folder = folder
         self.work = None
         os.makedirs(f"{folder}/crates", exist_ok=True)
-        for file in ("crates.txt", "HANDLES"):
-            shutil.copy2(f"{TOP}/{file}", f"{folder}/{file}")
+        shutil.copy2(f"{TOP}/HANDLES", f"{folder}/HANDLES")
+        with open(f"{TOP}/crates.txt", encoding="utf-8") as lines, open(f"{folder}/crates.txt", "w", encoding="utf-8") as out:
+            # `rt` stops at a line whose crate has no folder
+            out.writelines(line for line in lines if line.partition(":")[0] in order)
         for name in order:
             for part in PARTS:
                 here, there = f"{TOP}/crates/{name}/{part}", f"{folder}/crates/{name}/{part}"
