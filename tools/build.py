@@ -174,6 +174,11 @@ class Build:
         open_ones = [it for it in waiting if all(below in self.done for below in self.below[it])]
         return sorted(open_ones, key=lambda it: -self.height[it])
 
+    def jobs(self, name, waiting, count):
+        """How many jobs a check gets: all processors on the longest chain that is left, for nothing above can begin
+        before it ends, and one beside it."""
+        return count if all(self.height[name] >= self.height[it] for it in waiting) else 1
+
     def run(self):
         """Builds all libraries. Returns the crate that failed and its log, if one did."""
         self.keep_current()
@@ -188,8 +193,8 @@ class Build:
                 ready = self.ready(waiting)[: len(lanes)]
                 for name in ready:
                     waiting.remove(name)
-                    jobs = max(1, (count - len(running)) // len(ready)) if len(ready) + len(running) < count else 1
                     lane, log = lanes.pop(), f"{self.rooms}/{name}.log"
+                    jobs = self.jobs(name, waiting, count)
                     running[pool.submit(lane.build, name, self.below[name], jobs, log)] = name, lane, log
                 finished, _ = concurrent.futures.wait(running, return_when=concurrent.futures.FIRST_COMPLETED)
                 for it in finished:
