@@ -14,6 +14,7 @@ above-negated : (k : ℤ) (p : Laurent) → Above k p → Above k (map (λ t. (t
 above-negated k [] h = tt
 above-negated k ((j, c) ∷ p) (h, hs) = (h, above-negated k p hs)
 
+-- negated coefficients leave a canonical list canonical
 pub canonical-negated : (p : Laurent) → Canonical p → Canonical (map (λ t. (t.0, neg_ℤ t.1)) p)
 canonical-negated [] h = tt
 canonical-negated ((k, c) ∷ p) (ne, (a, h)) =
@@ -24,6 +25,7 @@ pub negate_is : (p : Laurent) → IsLaurent p → negate p ≡ map (λ t. (t.0, 
 unfolding negate
 negate_is p h = IsLaurent-canonical (map (λ t. (t.0, neg_ℤ t.1)) p) (canonical-negated p (canonical-from p h))
 
+-- the list of the negated terms is a polynomial
 pub IsLaurent-negated : (p : Laurent) → IsLaurent p → IsLaurent (map (λ t. (t.0, neg_ℤ t.1)) p)
 IsLaurent-negated p h = IsLaurent-canonical (map (λ t. (t.0, neg_ℤ t.1)) p) (canonical-negated p (canonical-from p h))
 
@@ -41,7 +43,8 @@ canonical-shifted : (k : ℤ) (p : Laurent) → Canonical p → Canonical (shift
 canonical-shifted k [] h = tt
 canonical-shifted k ((j, c) ∷ p) (ne, (a, h)) = (ne, (above-shifted k j p a, canonical-shifted k p h))
 
-products-power : (k : ℤ) (p : Laurent) → products (power k) p ≡ shifted k p
+-- the products of v^k and each term: each power by k greater
+pub products-power : (k : ℤ) (p : Laurent) → products (power k) p ≡ shifted k p
 unfolding products
 products-power k p = append-nil (map (λ t. (k +ℤ t.0, pos 1 *ℤ t.1)) p) ∙ same p
   where

@@ -25,6 +25,7 @@ scaled k c q = map (λ t. (k +ℤ t.0, c *ℤ t.1)) q
 
 -- ---- the coefficients of a sum and of a negation
 
+-- the coefficients of a sum are the sums of the coefficients
 pub coefficient-plus : (p q : Laurent) (j : ℤ) → coefficient (plus p q) j ≡ coefficient p j +ℤ coefficient q j
 unfolding plus
 coefficient-plus p q j = coefficient-collect (p ++ q) j ∙ coefficient-append p q j
@@ -39,6 +40,7 @@ coefficient-negated ((k, c) ∷ p) j =
       | false ↦ omega (arith, ints, coefficient-negated p j)
     ]
 
+-- the coefficients of a negation are negated
 pub coefficient-negate : (p : Laurent) (j : ℤ) → coefficient (negate p) j ≡ neg_ℤ (coefficient p j)
 unfolding negate
 coefficient-negate p j = coefficient-collect (negated p) j ∙ coefficient-negated p j
@@ -48,18 +50,22 @@ pub IsLaurent-plus : (p q : Laurent) → IsLaurent (plus p q)
 unfolding plus
 IsLaurent-plus p q = IsLaurent-collect (p ++ q)
 
+-- a negation is a polynomial
 pub IsLaurent-negate : (p : Laurent) → IsLaurent (negate p)
 unfolding negate
 IsLaurent-negate p = IsLaurent-collect (negated p)
 
+-- a product is a polynomial
 pub IsLaurent-times : (p q : Laurent) → IsLaurent (times p q)
 unfolding times
 IsLaurent-times p q = IsLaurent-collect (products p q)
 
+-- a bar is a polynomial
 pub IsLaurent-bar : (p : Laurent) → IsLaurent (bar p)
 unfolding bar
 IsLaurent-bar p = IsLaurent-collect (barred p)
 
+-- a lift is a polynomial
 pub IsLaurent-lift : (p : Laurent) → IsLaurent (lift p)
 unfolding lift
 IsLaurent-lift p =
@@ -72,10 +78,12 @@ IsLaurent-bar_invariant p h = subst (λ q. IsLaurent q) h (IsLaurent-bar p)
 
 -- ---- sums are a commutative group
 
+-- a sum does not depend on the order of its two terms
 pub plus_comm : (p q : Laurent) → plus p q ≡ plus q p
 plus_comm p q = same_laurent _ _ (IsLaurent-plus p q) (IsLaurent-plus q p)
     (λ j. omega (arith, ints, coefficient-plus p q j, coefficient-plus q p j))
 
+-- sums associate
 pub plus_assoc : (p q r : Laurent) → plus (plus p q) r ≡ plus p (plus q r)
 plus_assoc p q r = same_laurent _ _ (IsLaurent-plus (plus p q) r) (IsLaurent-plus p (plus q r))
     (λ j.
@@ -88,14 +96,17 @@ plus_assoc p q r = same_laurent _ _ (IsLaurent-plus (plus p q) r) (IsLaurent-plu
       coefficient-plus q r j,
     ))
 
+-- 0 added behind changes nothing
 pub plus_nought : (p : Laurent) → IsLaurent p → plus p [] ≡ p
 unfolding coefficient
 plus_nought p h = same_laurent _ _ (IsLaurent-plus p []) h (λ j. coefficient-plus p [] j ∙ omega (arith, ints))
 
+-- 0 added in front changes nothing
 pub nought_plus : (p : Laurent) → IsLaurent p → plus [] p ≡ p
 unfolding plus
 nought_plus p h = h
 
+-- a polynomial and its negation sum up to 0
 pub plus_negate : (p : Laurent) → plus p (negate p) ≡ []
 unfolding coefficient collect
 plus_negate p = same_laurent _ _ (IsLaurent-plus p (negate p)) refl
@@ -153,6 +164,7 @@ act-add_term k c ((l, d) ∷ p) f j =
     swapped : (x y z : ℤ) → x +ℤ (y +ℤ z) ≡ y +ℤ (x +ℤ z)
     swapped x y z = omega (arith, ints)
 
+-- the action does not see whether like powers were collected
 pub act-collect : (p : Laurent) (f : ℤ → ℤ) (j : ℤ) → act (collect p) f j ≡ act p f j
 unfolding act collect
 act-collect [] f j = refl
@@ -252,6 +264,7 @@ act-sum ((k, c) ∷ p) f g j =
 
 -- ---- products distribute over sums, and have a unit
 
+-- products associate
 pub times_assoc : (p q r : Laurent) → times (times p q) r ≡ times p (times q r)
 times_assoc p q r = same_laurent _ _ (IsLaurent-times (times p q) r) (IsLaurent-times p (times q r))
     (λ j.
@@ -260,6 +273,7 @@ times_assoc p q r = same_laurent _ _ (IsLaurent-times (times p q) r) (IsLaurent-
     ∙ act-alike p _ _ j (λ i. sym (coefficient-times q r i))
     ∙ sym (coefficient-times p (times q r) j))
 
+-- a product with a sum behind is the sum of the products
 pub times_plus : (p q r : Laurent) → times p (plus q r) ≡ plus (times p q) (times p r)
 times_plus p q r = same_laurent _ _ (IsLaurent-times p (plus q r)) (IsLaurent-plus (times p q) (times p r))
     (λ j. coefficient-times p (plus q r) j
@@ -268,6 +282,7 @@ times_plus p q r = same_laurent _ _ (IsLaurent-times p (plus q r)) (IsLaurent-pl
     ∙ ap₂ (λ x y. x +ℤ y) (sym (coefficient-times p q j)) (sym (coefficient-times p r j))
     ∙ sym (coefficient-plus (times p q) (times p r) j))
 
+-- a product with a sum in front is the sum of the products
 pub plus_times : (p q r : Laurent) → times (plus p q) r ≡ plus (times p r) (times q r)
 unfolding plus
 plus_times p q r = same_laurent _ _ (IsLaurent-times (plus p q) r) (IsLaurent-plus (times p r) (times q r))
@@ -302,9 +317,11 @@ act-coefficient-one ((k, c) ∷ p) j = ap₂ (λ x y. x +ℤ y)
     times_one_ℤ : (c : ℤ) → c *ℤ pos 1 ≡ c
     times_one_ℤ c = omega (arith, ints)
 
+-- 1 in front changes nothing
 pub one_times : (p : Laurent) → IsLaurent p → times one p ≡ p
 one_times p h = same_laurent _ _ (IsLaurent-times one p) h (λ j. coefficient-times one p j ∙ act-one (coefficient p) j)
 
+-- 1 behind changes nothing
 pub times_one : (p : Laurent) → IsLaurent p → times p one ≡ p
 times_one p h = same_laurent _ _ (IsLaurent-times p one) h (λ j. coefficient-times p one j ∙ act-coefficient-one p j)
 
@@ -316,10 +333,12 @@ act-zero ((k, c) ∷ p) j = ap (λ x. c *ℤ pos 0 +ℤ x) (act-zero p j) ∙ no
     nothing : (c : ℤ) → c *ℤ pos 0 +ℤ pos 0 ≡ pos 0
     nothing c = omega (arith, ints)
 
+-- a product with 0 behind is 0
 pub times_nought : (p : Laurent) → times p [] ≡ []
 unfolding coefficient collect
 times_nought p = same_laurent _ _ (IsLaurent-times p []) refl (λ j. coefficient-times p [] j ∙ act-zero p j)
 
+-- a product with 0 in front is 0
 pub nought_times : (p : Laurent) → times [] p ≡ []
 unfolding times products collect
 nought_times p = refl
@@ -345,6 +364,7 @@ coefficient-bar p j = coefficient-collect (barred p) j ∙ coefficient-barred p 
 pub even_coefficients : (p : Laurent) → IsBarInvariant p → (j : ℤ) → coefficient p (neg_ℤ j) ≡ coefficient p j
 even_coefficients p h j = sym (coefficient-bar p j) ∙ ap (λ q. coefficient q j) h
 
+-- a polynomial with the same coefficients at j and at -j is bar-invariant
 pub bar_invariant-from : (p : Laurent) → IsLaurent p → ((j : ℤ) → coefficient p (neg_ℤ j) ≡ coefficient p j) →
     IsBarInvariant p
 bar_invariant-from p l e = same_laurent _ _ (IsLaurent-bar p) l (λ j. coefficient-bar p j ∙ e j)
@@ -371,6 +391,7 @@ bar_times p q = same_laurent _ _ (IsLaurent-bar (times p q)) (IsLaurent-times (b
 pub bar_invariant-times : (p q : Laurent) → IsBarInvariant p → IsBarInvariant q → IsBarInvariant (times p q)
 bar_invariant-times p q hp hq = bar_times p q ∙ ap₂ (λ x y. times x y) hp hq
 
+-- a sum of bar-invariant polynomials is bar-invariant
 pub bar_invariant-plus : (p q : Laurent) → IsBarInvariant p → IsBarInvariant q → IsBarInvariant (plus p q)
 bar_invariant-plus p q hp hq = bar_invariant-from (plus p q) (IsLaurent-plus p q)
     (λ j.
@@ -383,14 +404,17 @@ bar_invariant-plus p q hp hq = bar_invariant-from (plus p q) (IsLaurent-plus p q
       even_coefficients q hq j,
     ))
 
+-- the negation of a bar-invariant polynomial is bar-invariant
 pub bar_invariant-negate : (p : Laurent) → IsBarInvariant p → IsBarInvariant (negate p)
 bar_invariant-negate p hp = bar_invariant-from (negate p) (IsLaurent-negate p)
     (λ j. coefficient-negate p (neg_ℤ j) ∙ ap neg_ℤ (even_coefficients p hp j) ∙ sym (coefficient-negate p j))
 
+-- 0 is bar-invariant
 pub bar_invariant-nought : IsBarInvariant []
 unfolding bar collect
 bar_invariant-nought = refl
 
+-- 1 is bar-invariant
 pub bar_invariant-one : IsBarInvariant one
 unfolding bar collect add_term
 bar_invariant-one = refl
@@ -453,6 +477,7 @@ lift-low p j h =
     ∙ ap₂ (λ a b. cond a (coefficient p j) (pos 0) +ℤ cond b (coefficient p (neg_ℤ j)) (pos 0)) (le_yes j h) (lt_no j h)
     ∙ omega (arith, ints)
 
+-- above 0 the lift has at j the coefficient at -j
 pub lift-high : (p : Laurent) (j : ℤ) → pos 0 <ℤ j → coefficient (lift p) j ≡ coefficient p (neg_ℤ j)
 lift-high p j h =
     coefficient-lift p j

@@ -140,6 +140,7 @@ module _ (p below : Laurent) (c : ℤ) (above : Laurent) (h : IsSplitAtZero p be
 size-reverse : (p : Laurent) → size (reverse p) ≡ size p
 size-reverse p = sum_by-IsPermutation (λ t. unsigned_abs t.1) p (reverse p) (IsPermutation-reverse p)
 
+-- the size of the lift: the lower half twice, and the middle
 pub size-lifted : (below : Laurent) (c : ℤ) → size (lifted below c) ≡ size below + unsigned_abs c + size below
 size-lifted below c =
     omega (
@@ -152,6 +153,7 @@ size-lifted below c =
       size-mirrored below,
     )
 
+-- the lift's powers are no further from 0 than those of the lower half
 pub within-lifted : (d : ℕ) (below : Laurent) (c : ℤ) → PowersWithin d below → PowersWithin d (lifted below c)
 within-lifted d below c h =
     let P : Term → Type 0 = λ t. unsigned_abs t.0 ≤ d in

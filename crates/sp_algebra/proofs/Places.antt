@@ -13,11 +13,13 @@ use Rattle.std.proofs.lemmas.Bool.{cases_lt}
 use Rattle.sp_defs.specs.Laurent.{Laurent, Term, coefficient}
 use Rattle.sp_algebra.proofs.Coefficients.{Above, Canonical, at-same, at-other, nothing_below}
 
+-- powers above m are above it at each place
 pub above_at : (m : ℤ) (p : Laurent) → Above m p → (i : ℕ) (d : Term) → i < length p → m <ℤ (get_or p i d).0
 above_at m [] a i d lt = absurd (omega arith)
 above_at m ((k, c) ∷ p) (h, a) zero d lt = h
 above_at m ((k, c) ∷ p) (h, a) (suc i) d lt = above_at m p a i d (omega arith)
 
+-- the power at an earlier place of a canonical list is less
 pub powers_ascend : (p : Laurent) → Canonical p → (i j : ℕ) (d : Term) → i < j → j < length p
     → (get_or p i d).0 <ℤ (get_or p j d).0
 powers_ascend [] h i j d lt in_range = absurd (omega arith)
@@ -38,6 +40,7 @@ coefficient_at ((k, c) ∷ p) (ne, (a, h)) (suc i) d lt =
     ap₂ (λ x y. x +ℤ y) (at-other k c (get_or p i d).0 (λ e. omega (arith, ints, above_at k p a i d (omega arith))))
     (coefficient_at p h i d (omega arith)) ∙ omega (arith, ints)
 
+-- the coefficient at a power that no term has is 0
 pub coefficient_absent : (p : Laurent) (j : ℤ) (d : Term) → ((i : ℕ) → i < length p → (get_or p i d).0 ≢ j)
     → coefficient p j ≡ pos 0
 unfolding coefficient

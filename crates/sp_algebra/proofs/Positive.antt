@@ -6,6 +6,7 @@ use Rattle.std.specs.List.{AllByRecursion}
 use Rattle.sp_defs.specs.Laurent.{Laurent, put, placed, add_term, collect, plus, power, sum_over}
 use Rattle.sp_lists.proofs.Elements.{all_append}
 
+-- all coefficients are positive
 abbrev pub AllPositive : Laurent → Type 0
 AllPositive p = AllByRecursion (λ t. pos 0 <ℤ t.1) p
 
@@ -23,11 +24,13 @@ positive_add_term k c ((j, d) ∷ p) hc (hd, h) =
       | Greater ↦ (hd, positive_add_term k c p hc h)
     ]
 
+-- collecting like powers keeps coefficients positive
 pub positive_collect : (ts : Laurent) → AllPositive ts → AllPositive (collect ts)
 unfolding collect
 positive_collect [] h = tt
 positive_collect ((k, c) ∷ ts) (hc, h) = positive_add_term k c (collect ts) hc (positive_collect ts h)
 
+-- a sum of polynomials with positive coefficients has positive ones
 pub positive_plus : (p q : Laurent) → AllPositive p → AllPositive q → AllPositive (plus p q)
 unfolding plus
 positive_plus p q hp hq = positive_collect (p ++ q) (all_append (λ t. pos 0 <ℤ t.1) p q hp hq)

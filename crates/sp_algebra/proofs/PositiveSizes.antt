@@ -1,12 +1,13 @@
 -- Where all coefficients are positive nothing cancels: the size of a sum is the sum of the sizes.
-use Rattle.std.proofs.Common.{◌≡◌, ◌+◌, List, [], ◌∷◌, ◌++◌, map, refl, sym, ◌∙◌, ap, ap₂, arith}
-use Rattle.std.proofs.Common.{ℤ, pos, negsuc, ◌+ℤ◌, ◌*ℤ◌, ◌<ℤ◌, Less, Equal, Greater, int_cmp, sum_by, unsigned_abs}
+use Rattle.std.proofs.Common.{◌≡◌, ◌+◌, List, [], ◌∷◌, ◌++◌, refl, sym, ◌∙◌, ap, arith}
+use Rattle.std.proofs.Common.{ℤ, pos, negsuc, ◌+ℤ◌, ◌<ℤ◌, Less, Equal, Greater, int_cmp, sum_by, unsigned_abs}
 use Rattle.std.proofs.lemmas.Int.{ints}
 use Rattle.std.specs.List.{AllByRecursion}
 use Rattle.std.proofs.lemmas.List.Sums.{sum_by-cons}
 use Rattle.sp_defs.specs.Laurent.{Laurent, placed, add_term, collect, plus, times, products, power, sum_over, size}
 use Rattle.sp_lists.proofs.Elements.{all_append}
 use Rattle.sp_algebra.proofs.Sizes.{size-cons, size-append, size-put}
+use Rattle.sp_algebra.proofs.Canonical.{products-power, shifted}
 use Rattle.sp_algebra.proofs.Positive.{AllPositive, positive_collect, positive_plus}
 
 abs-sum : (c d : ℤ) → pos 0 <ℤ c → pos 0 <ℤ d → unsigned_abs (c +ℤ d) ≡ unsigned_abs c + unsigned_abs d
@@ -25,6 +26,7 @@ size-add_term k c ((j, d) ∷ p) hc (hd, h) =
       | Greater ↦ omega (arith, size-cons j d (add_term k c p), size-add_term k c p hc h, size-cons j d p)
     ]
 
+-- where all coefficients are positive, collecting like powers keeps the size
 pub size-collect : (ts : Laurent) → AllPositive ts → size (collect ts) ≡ size ts
 unfolding collect
 size-collect [] h = refl
@@ -32,44 +34,30 @@ size-collect ((k, c) ∷ ts) (hc, h) =
     size-add_term k c (collect ts) hc (positive_collect ts h)
     ∙ ap (λ n. unsigned_abs c + n) (size-collect ts h) ∙ sym (size-cons k c ts)
 
+-- where all coefficients are positive, the size of a sum is the sum of the sizes
 pub size-plus : (p q : Laurent) → AllPositive p → AllPositive q → size (plus p q) ≡ size p + size q
 unfolding plus
 size-plus p q hp hq = size-collect (p ++ q) (all_append (λ t. pos 0 <ℤ t.1) p q hp hq) ∙ size-append p q
 
 -- ---- times a power
 
-shifted : ℤ → Laurent → Laurent
-shifted k p = map (λ t. (k +ℤ t.0, pos 1 *ℤ t.1)) p
-
-products-power : (k : ℤ) (p : Laurent) → products (power k) p ≡ shifted k p
-unfolding products shifted
-products-power k p = append-nil (map (λ t. (k +ℤ t.0, pos 1 *ℤ t.1)) p)
-  where
-    append-nil : (q : Laurent) → q ++ [] ≡ q
-    append-nil [] = refl
-    append-nil (t ∷ q) = ap (λ r. t ∷ r) (append-nil q)
-
-one-times : (c : ℤ) → pos 1 *ℤ c ≡ c
-one-times c = omega (arith, ints)
-
 positive-shifted : (k : ℤ) (p : Laurent) → AllPositive p → AllPositive (shifted k p)
-unfolding shifted
 positive-shifted k [] h = tt
-positive-shifted k ((j, c) ∷ p) (hc, h) = (omega (arith, ints, one-times c, hc), positive-shifted k p h)
+positive-shifted k ((j, c) ∷ p) (hc, h) = (hc, positive-shifted k p h)
 
 size-shifted : (k : ℤ) (p : Laurent) → size (shifted k p) ≡ size p
-unfolding shifted
 size-shifted k [] = refl
 size-shifted k ((j, c) ∷ p) =
-    size-cons (k +ℤ j) (pos 1 *ℤ c) (shifted k p)
-    ∙ ap₂ (λ a b. a + b) (ap unsigned_abs (one-times c)) (size-shifted k p) ∙ sym (size-cons j c p)
+    size-cons (k +ℤ j) c (shifted k p) ∙ ap (λ n. unsigned_abs c + n) (size-shifted k p) ∙ sym (size-cons j c p)
 
+-- a power of v times positive coefficients has positive ones
 pub positive-power_times : (k : ℤ) (p : Laurent) → AllPositive p → AllPositive (times (power k) p)
 unfolding times
 positive-power_times k p h =
     let shift : AllPositive (products (power k) p) = rw (products-power k p) (positive-shifted k p h) in
     positive_collect (products (power k) p) shift
 
+-- where all coefficients are positive, a power of v as a factor keeps the size
 pub size-power_times : (k : ℤ) (p : Laurent) → AllPositive p → size (times (power k) p) ≡ size p
 unfolding times
 size-power_times k p h =
@@ -78,12 +66,14 @@ size-power_times k p h =
 
 -- ---- sums over lists
 
+-- a sum over a list of polynomials with positive coefficients has positive ones
 pub positive-sum_over : {X : Type 0} (xs : List X) (f : X → Laurent) → AllByRecursion (λ x. AllPositive (f x)) xs →
     AllPositive (sum_over xs f)
 unfolding sum_over
 positive-sum_over [] f h = tt
 positive-sum_over (x ∷ xs) f (h, hs) = positive_plus (f x) (sum_over xs f) h (positive-sum_over xs f hs)
 
+-- where all coefficients are positive, the size of a sum over a list is the sum of the sizes
 pub size-sum_over : {X : Type 0} (xs : List X) (f : X → Laurent) → AllByRecursion (λ x. AllPositive (f x)) xs →
     size (sum_over xs f) ≡ sum_by (λ x. size (f x)) xs
 unfolding sum_over

@@ -34,6 +34,7 @@ int_sum-permutation g xs ys same =
     (sum_by-IsPermutation (λ x. down (g x)) xs ys same)
     ∙ sym (int_sum-parts g xs)
 
+-- a sum over a list does not depend on the order of the list
 pub sum_over-permutation : {X : Type 0} (xs ys : List X) (f : X → Laurent) → IsPermutation xs ys →
     sum_over ys f ≡ sum_over xs f
 sum_over-permutation xs ys f same =
@@ -55,6 +56,7 @@ sum_over-filter t (x ∷ xs) f =
           (IsLaurent-sum_over xs (λ x. cond (t x) (f x) [])))
     ]
 
+-- nor does a sum over the elements that pass a test
 pub sum_over-filter-permutation : {X : Type 0} (t : X → Bool) (xs ys : List X) (f : X → Laurent) → IsPermutation xs ys →
     sum_over (filter t ys) f ≡ sum_over (filter t xs) f
 sum_over-filter-permutation t xs ys f same =

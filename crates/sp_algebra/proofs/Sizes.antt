@@ -15,18 +15,22 @@ use Rattle.sp_algebra.proofs.Coefficients.{by_eq}
 
 -- ---- sizes
 
+-- a term in front adds its own size
 pub size-cons : (k c : ℤ) (p : Laurent) → size ((k, c) ∷ p) ≡ unsigned_abs c + size p
 size-cons k c p = sum_by-cons (λ t. unsigned_abs t.1) (k, c) p
 
+-- the size of joined lists is the sum of the sizes
 pub size-append : (p q : Laurent) → size (p ++ q) ≡ size p + size q
 size-append p q = sum_by-append (λ t. unsigned_abs t.1) p q
 
+-- a term in front, unless it is 0, adds its own size
 pub size-put : (k c : ℤ) (p : Laurent) → size (put k c p) ≡ unsigned_abs c + size p
 size-put k c p =
     by_eq c (pos 0) (λ b. size (cond b p ((k, c) ∷ p)) ≡ unsigned_abs c + size p)
     (λ e. subst (λ x. size p ≡ unsigned_abs x + size p) (sym e) (omega arith))
     (λ _. size-cons k c p)
 
+-- the size of c * v^k is that of c
 pub size-monomial : (k c : ℤ) → size (monomial k c) ≡ unsigned_abs c
 size-monomial k c = omega (arith, size-put k c [])
 
@@ -41,15 +45,18 @@ size_add_term k c ((j, d) ∷ p) =
       | Greater ↦ omega (arith, size-cons j d (add_term k c p), size-cons j d p, size_add_term k c p)
     ]
 
+-- collecting like powers makes no size greater
 pub size_collect : (ts : Laurent) → size (collect ts) ≤ size ts
 unfolding collect
 size_collect [] = omega arith
 size_collect ((k, c) ∷ ts) = omega (arith, size_add_term k c (collect ts), size_collect ts, size-cons k c ts)
 
+-- the size of a sum is at most the sum of the sizes
 pub size_plus : (p q : Laurent) → size (plus p q) ≤ size p + size q
 unfolding plus
 size_plus p q = omega (arith, size_collect (p ++ q), size-append p q)
 
+-- the terms times c * v^k have the size of c times theirs
 pub size-multiples : (k c : ℤ) (q : Laurent) → size (map (λ t. (k +ℤ t.0, c *ℤ t.1)) q) ≡ unsigned_abs c * size q
 size-multiples k c [] = omega arith
 size-multiples k c ((j, d) ∷ q) =
@@ -61,6 +68,7 @@ size-multiples k c ((j, d) ∷ q) =
       ap (λ n. unsigned_abs c * n) (size-cons j d q),
     )
 
+-- all products of a term of p and a term of q have the product of the sizes
 pub size-products : (p q : Laurent) → size (products p q) ≡ size p * size q
 unfolding products
 size-products [] q = omega arith
@@ -73,6 +81,7 @@ size-products ((k, c) ∷ p) q =
       ap (λ n. n * size q) (size-cons k c p),
     )
 
+-- the size of a product is at most the product of the sizes
 pub size_times : (p q : Laurent) → size (times p q) ≤ size p * size q
 unfolding times
 size_times p q = omega (arith, size_collect (products p q), size-products p q)
@@ -117,6 +126,7 @@ pub powers_plus : (P : ℤ → Type 0) (p q : Laurent) → AllByRecursion (λ t.
 unfolding plus
 powers_plus P p q hp hq = powers_collect P (p ++ q) (all_append (λ t. P t.0) p q hp hq)
 
+-- where the powers of two polynomials are within d of 0, so are those of their sum
 pub within_plus : (d : ℕ) (p q : Laurent) → PowersWithin d p → PowersWithin d q → PowersWithin d (plus p q)
 within_plus d p q hp hq = powers_plus (λ k. unsigned_abs k ≤ d) p q hp hq
 
@@ -149,6 +159,7 @@ product_within x y d [] q le hp hq = tt
 product_within x y d ((k, c) ∷ p) q le (hk, hp) hq =
     (sums_within x y d k q le hk hq, product_within x y d p q le hp hq)
 
+-- products within d of 0 are within any greater number
 pub product_within_more : (d e : ℕ) (p q : Laurent) → d ≤ e → ProductWithin d p q → ProductWithin e p q
 product_within_more d e [] q le h = tt
 product_within_more d e ((k, c) ∷ p) q le (h, hs) = (more q h, product_within_more d e p q le hs)
@@ -169,40 +180,49 @@ product_within-right_cons d k c p [] h hs = tt
 product_within-right_cons d k c p ((j, b) ∷ q) (h, ht) (g, hs) =
     ((omega (arith, ints), g), product_within-right_cons d k c p q ht hs)
 
+-- how far products lie from 0 does not depend on the order of the factors
 pub product_within-swap : (d : ℕ) (p q : Laurent) → ProductWithin d p q → ProductWithin d q p
 product_within-swap d [] q h = product_within-right_nil d q
 product_within-swap d ((k, c) ∷ p) q (h, hs) = product_within-right_cons d k c p q h (product_within-swap d p q hs)
 
+-- what holds of k holds of all powers of c * v^k
 pub powers_monomial : (P : ℤ → Type 0) (k c : ℤ) → P k → AllByRecursion (λ t. P t.0) (monomial k c)
 powers_monomial P k c h = within_put P k c [] h tt
 
+-- where k is within d of 0, so is the power of c * v^k
 pub within_monomial : (d : ℕ) (k c : ℤ) → unsigned_abs k ≤ d → PowersWithin d (monomial k c)
 within_monomial d k c h = powers_monomial (λ j. unsigned_abs j ≤ d) k c h
 
+-- powers within d of 0 are within any greater number
 pub within_more : (d e : ℕ) (p : Laurent) → d ≤ e → PowersWithin d p → PowersWithin e p
 within_more d e [] le all = tt
 within_more d e ((k, c) ∷ p) le (h, all) = (omega arith, within_more d e p le all)
 
 -- ---- the negative and the bar
 
+-- negated coefficients have the same size
 pub size-negated : (p : Laurent) → size (map (λ t. (t.0, neg_ℤ t.1)) p) ≡ size p
 size-negated [] = refl
 size-negated ((k, c) ∷ p) =
     omega (arith, ints, size-cons k (neg_ℤ c) (map (λ t. (t.0, neg_ℤ t.1)) p), size-cons k c p, size-negated p)
 
+-- a negation's size is at most the polynomial's
 pub size_negate : (p : Laurent) → size (negate p) ≤ size p
 unfolding negate
 size_negate p = omega (arith, size_collect (map (λ t. (t.0, neg_ℤ t.1)) p), size-negated p)
 
+-- negated powers leave the size
 pub size-mirrored : (p : Laurent) → size (map (λ t. (neg_ℤ t.0, t.1)) p) ≡ size p
 size-mirrored [] = refl
 size-mirrored ((k, c) ∷ p) =
     omega (arith, size-cons (neg_ℤ k) c (map (λ t. (neg_ℤ t.0, t.1)) p), size-cons k c p, size-mirrored p)
 
+-- a bar's size is at most the polynomial's
 pub size_bar : (p : Laurent) → size (bar p) ≤ size p
 unfolding bar
 size_bar p = omega (arith, size_collect (map (λ t. (neg_ℤ t.0, t.1)) p), size-mirrored p)
 
+-- where powers are within d of 0, so are those of the negation
 pub within_negate : (d : ℕ) (p : Laurent) → PowersWithin d p → PowersWithin d (negate p)
 unfolding negate
 within_negate d p h = powers_collect (λ k. unsigned_abs k ≤ d) (map (λ t. (t.0, neg_ℤ t.1)) p) (same p h)
@@ -211,10 +231,12 @@ within_negate d p h = powers_collect (λ k. unsigned_abs k ≤ d) (map (λ t. (t
     same [] h = tt
     same ((k, c) ∷ p) (h, hs) = (h, same p hs)
 
+-- where powers are within d of 0, so are the negated ones
 pub within-mirrored : (d : ℕ) (p : Laurent) → PowersWithin d p → PowersWithin d (map (λ t. (neg_ℤ t.0, t.1)) p)
 within-mirrored d [] h = tt
 within-mirrored d ((k, c) ∷ p) (h, hs) = (omega (arith, ints), within-mirrored d p hs)
 
+-- where powers are within d of 0, so are those of the bar
 pub within_bar : (d : ℕ) (p : Laurent) → PowersWithin d p → PowersWithin d (bar p)
 unfolding bar
 within_bar d p h = powers_collect (λ k. unsigned_abs k ≤ d) (map (λ t. (neg_ℤ t.0, t.1)) p) (within-mirrored d p h)

@@ -40,10 +40,12 @@ add_term-append k c ((j, d) ∷ p) q (lt, low) =
       | Greater ↦ λ h. ap (λ r. (j, d) ∷ r) (add_term-append k c p q low)
     ] (int_ranks k j)
 
+-- a term that isn't 0 stands in front
 pub put-nonzero : (k c : ℤ) (p : Laurent) → c ≢ pos 0 → put k c p ≡ (k, c) ∷ p
 put-nonzero k c p ne = by_eq c (pos 0) (λ b. cond {A = Laurent} b p ((k, c) ∷ p) ≡ (k, c) ∷ p) (λ e. absurd (ne e))
     (λ _. refl)
 
+-- a term in front, unless it is 0, is the list of the monomial in front
 pub put-append : (k c : ℤ) (p : Laurent) → put k c p ≡ monomial k c ++ p
 put-append k c p =
     elim (int_eq c (pos 0)) as (λ b. cond {A = Laurent} b p ((k, c) ∷ p) ≡ cond {A = Laurent} b []
@@ -77,6 +79,7 @@ add_term-same k c j d p e =
 
 -- ---- products
 
+-- the product of joined lists is the sum of the products
 pub times-append : (p q r : Laurent) → times (p ++ q) r ≡ plus (times p r) (times q r)
 times-append p q r = same_laurent _ _ (IsLaurent-times (p ++ q) r) (IsLaurent-plus (times p r) (times q r))
     (λ j. coefficient-times (p ++ q) r j ∙ act-append p q (coefficient r) j
@@ -110,6 +113,7 @@ act_comm [] q j = sym (nothing q j)
 act_comm ((k, c) ∷ p) q j =
     ap₂ (λ x y. x +ℤ y) (sym (act-at q k c j)) (act_comm p q j) ∙ sym (act-sum q (at k c) (coefficient p) j)
 
+-- a product does not depend on the order of its factors
 pub times_comm : (p q : Laurent) → times p q ≡ times q p
 times_comm p q = same_laurent _ _ (IsLaurent-times p q) (IsLaurent-times q p)
     (λ j. coefficient-times p q j ∙ act_comm p q j ∙ sym (coefficient-times q p j))

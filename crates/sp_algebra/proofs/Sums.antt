@@ -6,6 +6,7 @@ use Rattle.sp_defs.specs.Laurent.{Laurent, collect, add_term, products, plus, ti
 use Rattle.sp_lists.proofs.Elements.{nil_or_not}
 use Rattle.sp_algebra.proofs.Laws.{IsLaurent-plus, plus_assoc, nought_plus, times_plus, times_nought}
 
+-- a sum over a list is a polynomial
 pub IsLaurent-sum_over : {X : Type 0} (xs : List X) (f : X → Laurent) → IsLaurent (sum_over xs f)
 unfolding sum_over collect
 IsLaurent-sum_over [] f = refl
@@ -34,6 +35,7 @@ sum_over-flat f [] g = refl
 sum_over-flat f (x ∷ xs) g =
     sum_over-append (f x) (flat_map f xs) g ∙ ap (plus (sum_over (f x) g)) (sum_over-flat f xs g)
 
+-- over a mapped list
 pub sum_over-map : {X Y : Type 0} (h : X → Y) (xs : List X) (g : Y → Laurent) →
     sum_over (map h xs) g ≡ sum_over xs (λ x. g (h x))
 unfolding sum_over

@@ -12,16 +12,19 @@ use Rattle.sp_defs.specs.Laurent.{Laurent, Term, IsPositive, coefficient, size, 
 use Rattle.sp_algebra.proofs.Coefficients.{Above, Above-lower, Canonical, at-same, nothing_below}
 use Rattle.sp_algebra.proofs.Sizes.{size-cons}
 
+-- the values at 1 of joined lists add up
 pub value-append : (p q : Laurent) → value_at_one (p ++ q) ≡ value_at_one p +ℤ value_at_one q
 unfolding int_sum
 value-append [] q = omega (arith, ints)
 value-append ((k, c) ∷ p) q = omega (arith, ints, value-append p q)
 
+-- the value at 1 is no further from 0 than the size
 pub value_le_size : (p : Laurent) → unsigned_abs (value_at_one p) ≤ size p
 unfolding int_sum
 value_le_size [] = omega (arith, ints)
 value_le_size ((k, c) ∷ p) = omega (arith, ints, value_le_size p, size-cons k c p)
 
+-- the value of 0 at 1 is 0
 pub value-nought : value_at_one [] ≡ pos 0
 unfolding int_sum
 value-nought = refl
@@ -37,6 +40,7 @@ value-more p i d lt =
 pub positive_above : (p : Laurent) → Above (pos 0) p → IsPositive p
 positive_above p a j le = nothing_below (pos 0) p j a le
 
+-- where only positive powers occur, the first power is positive
 pub first_positive : (k c : ℤ) (p : Laurent) → Canonical ((k, c) ∷ p) → IsPositive ((k, c) ∷ p) → pos 0 <ℤ k
 unfolding coefficient
 first_positive k c p (ne, (a, h)) positive = by_order k (λ le. ne (sym (shown le) ∙ positive k le))
@@ -68,6 +72,7 @@ first_decides ((k, c) ∷ p) d (ne, (a, h)) some = (
     tested : (k : ℤ) → pos 0 <ℤ k → int_lt (pos 0) k ≡ true
     tested k lt = grind (arith, ints)
 
+-- a list with no terms has only positive powers
 pub positive_nought : (p : Laurent) → length p ≤ 0 → IsPositive p
 unfolding coefficient
 positive_nought [] none j le = refl
