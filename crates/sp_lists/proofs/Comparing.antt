@@ -1,5 +1,5 @@
 -- Two tests of two lists of numbers: by their elements, and by the lexicographic order.
-use Rattle.std.proofs.Common.{◌≡◌, ℕ, nat_eq, true, List, refl, sym, ◌∙◌, ap}
+use Rattle.std.proofs.Common.{◌≡◌, ◌≢◌, ℕ, nat_eq, Bool, true, false, not, List, refl, sym, ◌∙◌, ap}
 use Rattle.std.proofs.Common.{Ordering, Less, Equal, Greater}
 use Rattle.std.specs.Ordering.{is_eq, nat_cmp, ordering_reverse}
 use Rattle.std.specs.Cmp.Lexicographic.{pointwise, slice_cmp, same_text, other_text}
@@ -9,7 +9,7 @@ use Rattle.std.proofs.lemmas.Bool.{true_from_ne_false}
 use Rattle.sp_lists.proofs.Elements.{same_tests}
 
 -- a list equals itself in the order
-equal_self : (xs : List ℕ) → slice_cmp nat_cmp xs xs ≡ Equal
+pub equal_self : (xs : List ℕ) → slice_cmp nat_cmp xs xs ≡ Equal
 equal_self xs = own (slice_cmp nat_cmp xs xs) (nat_list_cmp_total.antisymm xs xs)
   where
     own : (o : Ordering) → o ≡ ordering_reverse o → o ≡ Equal
@@ -34,3 +34,21 @@ same_equality xs ys = same_tests (pointwise nat_eq xs ys) (is_eq (slice_cmp nat_
     other_way e =
         true_from_ne_false (pointwise nat_eq xs ys) (λ h. other_text xs ys (sym h)
         (slice_cmp-IsAntisymmetric nat_cmp-IsAntisymmetric xs ys (is_equal (slice_cmp nat_cmp xs ys) e)))
+
+-- ---- what a test that tells lists apart has said
+
+-- It says that they differ, and they are two,
+pub told_other : (xs ys : List ℕ) (b : Bool) → b ≡ not (pointwise nat_eq xs ys) → b ≡ true → xs ≢ ys
+told_other xs ys b is told = other_text xs ys (of_not (pointwise nat_eq xs ys) (sym is ∙ told))
+  where
+    of_not : (p : Bool) → not p ≡ true → false ≡ p
+    of_not true h = h
+    of_not false h = refl
+
+-- or that they don't, and they are one.
+pub told_same : (xs ys : List ℕ) (b : Bool) → b ≡ not (pointwise nat_eq xs ys) → b ≡ false → xs ≡ ys
+told_same xs ys b is told = same_text xs ys (of_not (pointwise nat_eq xs ys) (sym is ∙ told))
+  where
+    of_not : (p : Bool) → not p ≡ false → true ≡ p
+    of_not true h = refl
+    of_not false h = h

@@ -1,9 +1,12 @@
 pub mod Elements
 pub mod Places
 pub mod Occurrence
+pub mod Positions
 pub mod Maps
 pub mod FlatMaps
 pub mod Sums
 pub mod Counts
 pub mod Greatest
+pub mod Zips
+pub mod Backwards
 pub mod Comparing

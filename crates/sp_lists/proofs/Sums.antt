@@ -1,11 +1,12 @@
 -- Sums over a list: of functions that agree, of sums and products, of one term, and class by class.
 use Rattle.std.proofs.Common.{◌≡◌, ℕ, zero, suc, ◌+◌, ◌*◌, ◌<◌, ◌≤◌, Bool, true, false, cond, nat_eq, List, []}
 use Rattle.std.proofs.Common.{◌∷◌, filter, length, refl, sym, ◌∙◌, ap, ap₂, arith, sum_by, eq-eqb, ne_eqb, ◌⊎◌, inl}
-use Rattle.std.proofs.Common.{inr}
+use Rattle.std.proofs.Common.{inr, sum, slice_index}
 use Rattle.std.proofs.Common.{eq-or-lt_of_le, add-zero, zero-add}
 use Rattle.std.specs.List.{AllByRecursion, range_with_len}
 use Rattle.std.proofs.lemmas.List.Sums.{sum_by-cons}
 use Rattle.sp_lists.proofs.Elements.{le_or_lt}
+use Rattle.sp_lists.proofs.Places.{all_weaken}
 
 -- functions that agree on each element
 pub sum-alike : {X : Type 0} (f g : X → ℕ) (xs : List X) → AllByRecursion (λ x. f x ≡ g x) xs →
@@ -47,6 +48,22 @@ sum-zeros (x ∷ xs) = omega (arith, sum_by-cons (λ _. 0) x xs, sum-zeros xs)
 pub sum-ones : {X : Type 0} (xs : List X) → sum_by (λ _. 1) xs ≡ length xs
 sum-ones [] = refl
 sum-ones (x ∷ xs) = omega (arith, sum-ones xs, sum_by-cons (λ _. 1) x xs)
+
+-- ---- numbers and their sum
+
+-- the first is at most the sum
+pub first-le-sum : (xs : List ℕ) → slice_index xs 0 ≤ sum xs
+first-le-sum [] = omega arith
+first-le-sum (x ∷ xs) = omega (arith, sum_by-cons (λ y. y) x xs)
+
+-- each is at most the sum
+pub all_below_sum : (xs : List ℕ) → AllByRecursion (λ x. x < sum xs + 1) xs
+all_below_sum [] = tt
+all_below_sum (x ∷ xs) =
+    let e = sum_by-cons (λ y. y) x xs in (
+      omega arith,
+      all_weaken (λ y. y < sum xs + 1) (λ y. y < sum (x ∷ xs) + 1) xs (λ y lt. omega arith) (all_below_sum xs),
+    )
 
 -- ---- over a range
 
