@@ -102,6 +102,7 @@ before_before kappa mu (nu ∷ rs) h = placed (compare nu mu) refl (before_befor
 
 -- ---- those after
 
+-- The partitions of a list that are later than mu.
 abbrev pub after : List ℕ → List (List ℕ) → List (List ℕ)
 after mu rs = filter (λ nu. is_gt (compare nu mu)) rs
 

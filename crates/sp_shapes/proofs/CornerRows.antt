@@ -1,23 +1,19 @@
 -- Addable and removable nodes, and marks, row by row.
 use Rattle.std.proofs.Common.{◌≡◌, ℕ, zero, suc, ◌+◌, ◌<◌, ◌≤◌, Bool, true, false, cond, List, [], ◌∷◌, ◌++◌, map}
 use Rattle.std.proofs.Common.{filter, flat_map, length, slice_index, refl, sym, ◌∙◌, ap, ap₂, arith, add-one}
-use Rattle.std.specs.List.{AllByRecursion, range_with_len}
+use Rattle.std.specs.List.{range_with_len}
 use Rattle.std.proofs.lemmas.Bool.Decides.{nat_tests}
 use Rattle.std.proofs.lemmas.List.Concat.{flat_map-cons}
 use Rattle.std.proofs.lemmas.List.FromFn.{map-range_with_len_more}
 use Rattle.sp_defs.specs.Partition.{part, from_one_to}
 use Rattle.sp_defs.specs.Node.{Node, is_removable, nodes_from, nodes, removable}
-use Rattle.sp_lists.proofs.Elements.{filter_append, all_map, range_all}
+use Rattle.sp_lists.proofs.Elements.{filter_append, filter_none, all_map, range_all}
 
 cond_append : {X : Type 0} (b : Bool) (x : X) (xs : List X) → cond b (x ∷ []) [] ++ xs ≡ cond b (x ∷ xs) xs
 cond_append true x xs = refl
 cond_append false x xs = refl
 
 -- ---- the last node of a row is the only one that may be removable
-
-filter_none : {X : Type 0} (t : X → Bool) (xs : List X) → AllByRecursion (λ x. t x ≡ false) xs → filter t xs ≡ []
-filter_none t [] h = refl
-filter_none t (x ∷ xs) (h, hs) = ap (λ b. cond b (x ∷ filter t xs) (filter t xs)) h ∙ filter_none t xs hs
 
 -- a node with a node to its right
 inner_stays : (parts : List ℕ) (r c : ℕ) → 1 ≤ r → c < part parts r → is_removable parts (r, c) ≡ false

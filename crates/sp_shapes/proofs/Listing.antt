@@ -15,6 +15,7 @@ pub use Rattle.sp_lists.proofs.Occurrence.{Occurs, at_occurs, occurs_left, occur
 pub use Rattle.sp_lists.proofs.Occurrence.{occurs_filter, occurs_range}
 use Rattle.sp_lists.proofs.Occurrence.{contains, occurs}
 use Rattle.sp_lists.proofs.Places.{all_weaken}
+use Rattle.sp_lists.proofs.Sums.{first-le-sum}
 use Rattle.sp_shapes.proofs.Diagram.{IsPartition-tail, IsPartition-head}
 
 -- ---- the empty partition, and one part more in front
@@ -261,15 +262,11 @@ unfolding partitions
 all_partitions n = all_weaken (Fits n n) (IsPartitionOf n) (partitions_within n n)
     (λ x h. record { partition = h.partition; total = h.total }) (all_within n n)
 
-head_within : (parts : List ℕ) → slice_index parts 0 ≤ sum parts
-head_within [] = omega arith
-head_within (p ∷ parts) = omega (arith, sum_by-cons (λ x. x) p parts)
-
 -- each partition of n is an entry
 pub each_partition : (n : ℕ) (parts : List ℕ) → IsPartition parts → degree parts ≡ n → Occurs parts (partitions n)
 unfolding partitions
 each_partition n parts h e =
-    each_within n n parts (record { partition = h; within = omega (arith, head_within parts, e); total = e })
+    each_within n n parts (record { partition = h; within = omega (arith, first-le-sum parts, e); total = e })
 
 -- they ascend
 pub partitions_ascend : (n : ℕ) → Ascending (partitions n)

@@ -3,14 +3,10 @@ use Rattle.std.proofs.Common.{◌≡◌, ℕ, zero, suc, ◌+◌, ◌-◌, ◌<�
 use Rattle.std.proofs.Common.{nat_lt, List, [], ◌∷◌, refl, sym, ap, subst, arith, count_by, slice_index, ◌⊎◌, inl, inr}
 use Rattle.std.proofs.Common.{eqb-true, ne_eqb, lt-ltb}
 use Rattle.std.specs.List.{AllByRecursion}
-use Rattle.std.proofs.lemmas.List.Sums.{sum_by-cons}
 use Rattle.sp_defs.specs.Partition.{IsPartition, is_regular}
+use Rattle.sp_lists.proofs.Counts.{count-cons}
 use Rattle.sp_lists.proofs.Elements.{le_or_lt, tests_all}
 use Rattle.sp_shapes.proofs.Diagram.{IsPartition-tail, IsPartition-head}
-
-count-cons : (p x : ℕ) (xs : List ℕ) →
-    count_by (λ q. nat_eq q p) (x ∷ xs) ≡ cond (nat_eq x p) 1 0 + count_by (λ q. nat_eq q p) xs
-count-cons p x xs = sum_by-cons (λ q. cond (nat_eq q p) 1 0) x xs
 
 at_most_one : (b : Bool) → cond b 1 0 ≤ 1
 at_most_one b = elim b as (λ b. cond b 1 0 ≤ 1) [ true ↦ omega arith | false ↦ omega arith ]
@@ -21,9 +17,19 @@ few_equal [] p k h lt = omega arith
 few_equal (x ∷ xs) p zero h lt =
     let d : slice_index xs 0 ≤ x = h.descending 0 in
     let z : ◌≡◌ {A = ℕ} (cond (nat_eq x p) 1 0) 0 = ap (λ b. cond b 1 0) (ne_eqb x p (λ e. omega arith)) in
-    omega (arith, z, count-cons p x xs, few_equal xs p 0 (IsPartition-tail x xs h) (omega (arith, d, lt)))
+    omega (
+      arith,
+      z,
+      count-cons (λ q. nat_eq q p) x xs,
+      few_equal xs p 0 (IsPartition-tail x xs h) (omega (arith, d, lt)),
+    )
 few_equal (x ∷ xs) p (suc k) h lt =
-    omega (arith, at_most_one (nat_eq x p), count-cons p x xs, few_equal xs p k (IsPartition-tail x xs h) lt)
+    omega (
+      arith,
+      at_most_one (nat_eq x p),
+      count-cons (λ q. nat_eq q p) x xs,
+      few_equal xs p k (IsPartition-tail x xs h) lt,
+    )
 
 -- each part that is not 0 is less than the part e - 1 rows above
 abbrev pub RowRegular : ℕ → List ℕ → Type 0
@@ -45,11 +51,16 @@ few e (x ∷ xs) p he h hp r = settle (few e xs p he (IsPartition-tail x xs h) h
     settle : count_by (λ q. nat_eq q p) xs < e → (b : Bool) → nat_eq x p ≡ b → count_by (λ q. nat_eq q p) (x ∷ xs) < e
     settle ih false eq =
         let z : ◌≡◌ {A = ℕ} (cond (nat_eq x p) 1 0) 0 = ap (λ b. cond b 1 0) eq in
-        omega (arith, ih, z, count-cons p x xs)
+        omega (arith, ih, z, count-cons (λ q. nat_eq q p) x xs)
     settle ih true eq =
         let is : x ≡ p = eqb-true x p eq in
         let low : slice_index xs (e - 2) < p = below is (le_or_lt (slice_index xs (e - 2)) 0) in
-        omega (arith, at_most_one (nat_eq x p), count-cons p x xs, few_equal xs p (e - 2) (IsPartition-tail x xs h) low)
+        omega (
+          arith,
+          at_most_one (nat_eq x p),
+          count-cons (λ q. nat_eq q p) x xs,
+          few_equal xs p (e - 2) (IsPartition-tail x xs h) low,
+        )
       where
         place : 0 + (e - 1) ≡ suc (e - 2)
         place = omega arith
