@@ -5,6 +5,7 @@ use Rattle.std.proofs.Common.{Option, Some, Bor, Iter}
 use Rattle.std.proofs.iter.Yields.{fronts}
 use Rattle.std.proofs.lemmas.Grind.{common_steps}
 use Rattle.std.proofs.lemmas.Iterator.{zips}
+use Rattle.std.proofs.lemmas.List.{take_all}
 use Rattle.std.proofs.lemmas.Slice.Zip.{zip_turn}
 use Rattle.std.specs.Iterator.{Yields}
 use Rattle.std.specs.Iterator.Adapters.{zip_first, zip_second}
@@ -36,9 +37,6 @@ above_next n upper lower before next k h = at (le_or_lt k n)
     at (inl within) = before k within
     at (inr last) =
         let is : n + 1 ≡ k = omega arith in subst (λ j. sum (take j lower) ≤ sum (take j upper)) is next
-
-take_all : (k : ℕ) (parts : List ℕ) → length parts ≤ k → take k parts ≡ parts
-take_all k parts h = grind (arith, common_steps)
 
 take_less : (n k : ℕ) (parts : List ℕ) → n ≤ k → take n (take k parts) ≡ take n parts
 take_less n k parts h = grind (arith, common_steps)

@@ -39,6 +39,7 @@ falls_step (x ∷ before) q p more h = falls_step before q p more (falls_tail x 
 
 -- ---- what is read is a partition
 
+-- No part is 0.
 abbrev pub Positive : List ℕ → Type 0
 Positive parts = AllByRecursion (λ p. 0 < p) parts
 

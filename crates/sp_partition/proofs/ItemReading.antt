@@ -8,11 +8,12 @@ use Rattle.std.specs.Option.{option_map, option_and_then}
 use Rattle.std.specs.Str.Parse.{digits_value}
 use Rattle.std.proofs.lemmas.Bool.{and_from, and_parts, or_right, or_cases, not_from_false, not-true, eqb-false}
 use Rattle.std.proofs.lemmas.Bool.{cases_Bool}
+use Rattle.std.proofs.lemmas.List.{take_all}
 use Rattle.std.proofs.lemmas.List.Splits.{join_with_byte-slice_split, length-slice_split}
 use Rattle.sp_partition.specs.Reading.{is_number, number_of, positive_of, cut, item_of}
 use Rattle.sp_partition.specs.Pieces.{IsNumber, StandsAt, IsItemOf, rest_of}
 use Rattle.sp_partition.proofs.Marks.{digits_free_above, cut_free, cut_mark, pieces_left, first_piece, rest_some}
-use Rattle.sp_partition.proofs.Marks.{split_there, take_whole}
+use Rattle.sp_partition.proofs.Marks.{split_there}
 use Rattle.sp_partition.proofs.Numbers.{number_positive, digits_pass, passing_digits}
 
 -- ---- numbers
@@ -152,7 +153,7 @@ item_once text n end le h = record {
   number = self;
   count = 1;
   some = omega arith;
-  item = ap (λ t. item_of (cut 94 t)) (sym (take_whole text end le)) ∙ plain_item (take end text) _ self;
+  item = ap (λ t. item_of (cut 94 t)) (sym (take_all end text le)) ∙ plain_item (take end text) _ self;
   times_is = refl;
 }
   where

@@ -67,6 +67,7 @@ unwrapped r P x v h is = (subst (λ o. SomeIff o P v) is h).1
 
 -- ---- lists behind the same parts
 
+-- The lists with `front` in front of each.
 abbrev pub behind : List ℕ → List (List ℕ) → List (List ℕ)
 behind front tails = map (λ tail. front ++ tail) tails
 

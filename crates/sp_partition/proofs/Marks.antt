@@ -3,11 +3,10 @@ use Rattle.std.proofs.Common.{◌≡◌, ◌≢◌, ℕ, zero, suc, ◌+◌, ◌
 use Rattle.std.proofs.Common.{slice_index, refl, sym, ◌∙◌, ap, ap₂, arith, length-drop, Option, Some, None, nat_eq}
 use Rattle.std.proofs.Common.{nat_le, ◌⊎◌, inl, inr, eq-eqb, ne_eqb, le-leb}
 use Rattle.std.proofs.lemmas.Bool.{lt-leb, cond-true, cond-false}
-use Rattle.std.proofs.lemmas.Grind.{common_steps}
 use Rattle.std.proofs.Math.Seq.{drop-cons}
 use Rattle.std.specs.List.{AllByRecursion, onto_first}
 use Rattle.std.specs.Str.Parse.{AllDigits}
-use Rattle.std.proofs.lemmas.List.{take-append-drop}
+use Rattle.std.proofs.lemmas.List.{take-append-drop, take_all}
 use Rattle.std.proofs.lemmas.Str.Parse.{digit_from_value}
 use Rattle.sp_lists.proofs.Elements.{le_or_lt}
 use Rattle.sp_partition.specs.Reading.{cut}
@@ -80,13 +79,9 @@ split_there mark text end lt is =
 pub free_before : (mark : ℕ) (text : List ℕ) (end : ℕ) → StandsAt mark text end → Free mark (take end text)
 free_before mark text end h = free_take mark text end h.before
 
--- All of a text, where that is as long.
-pub take_whole : (text : List ℕ) (end : ℕ) → length text ≤ end → take end text ≡ text
-take_whole text end h = grind (arith, common_steps)
-
 -- What `&text[n..]` is.
 pub rest_whole : (text : List ℕ) (n : ℕ) → take (length text - n) (drop n text) ≡ drop n text
-rest_whole text n = take_whole (drop n text) (length text - n) (simp length-drop (omega arith))
+rest_whole text n = take_all (length text - n) (drop n text) (simp length-drop (omega arith))
 
 -- Behind the mark there is a text.
 pub rest_some : (text : List ℕ) (end : ℕ) → end < length text → rest_of text end ≡ Some (drop (end + 1) text)
@@ -104,7 +99,7 @@ first_piece mark text end h = settle (le_or_lt (length text) end)
     settle : (length text ≤ end) ⊎ (end < length text) →
         cut mark text ≡ take end text ∷ pieces_left mark (rest_of text end)
     settle (inl le) =
-        ap (cut mark) (sym (take_whole text end le)) ∙ cut_free mark (take end text) free
+        ap (cut mark) (sym (take_all end text le)) ∙ cut_free mark (take end text) free
         ∙ ap (λ o. take end text ∷ pieces_left mark o)
         (sym (cond-true (nat_le (length text) end) None (Some (drop (end + 1) text)) (le-leb (length text) end le)))
     settle (inr lt) =

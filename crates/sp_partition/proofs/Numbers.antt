@@ -33,6 +33,7 @@ value-cons d ds = after_is (0 + digit_value d) ds
 
 -- ---- of one length: the first byte that differs decides
 
+-- The first byte that differs is less, or the first list ends before the other.
 abbrev pub digits_less : List ℕ → List ℕ → Bool
 digits_less [] [] = false
 digits_less [] (y ∷ ys) = true

@@ -56,9 +56,11 @@ module _ (list : List (List ℕ))
 
   -- ---- by what the search answers
 
+  -- Where the search finds a place, the list has the partition,
   pub found_none : (i : ℕ) → i < length list → IsBinarySearchResult (λ q. order q p) list (Ok i) → Contains list p
   found_none i in_range is = holds i in_range (found i is)
 
+  -- and that place is its only one.
   pub found_some : (i : ℕ) → i < length list → IsBinarySearchResult (λ q. order q p) list (Ok i) →
       (k : ℕ) → (i ≡ k) ↔ ((k < length list) × (get_or list k [] ≡ p))
   found_some i in_range is k = (
@@ -66,16 +68,19 @@ module _ (list : List (List ℕ))
     λ at. place_is i k in_range at.0 (found i is ∙ sym at.1),
   )
 
+  -- Where it finds none, the list doesn't have it,
   pub absent_none : (i : ℕ) → i ≤ length list → IsBinarySearchResult (λ q. order q p) list (Err i) →
       Contains list p → ⊥
   absent_none i in_range is (k, lt, at) = absent i in_range is k lt (get_or_default list k [] p lt ∙ at)
 
+  -- and it stands at no place.
   pub absent_some : (i : ℕ) → i ≤ length list → IsBinarySearchResult (λ q. order q p) list (Err i) →
       (k : ℕ) → k < length list → get_or list k [] ≢ p
   absent_some = absent
 
   -- ---- the option
 
+  -- There is no rank exactly where the list doesn't have the partition.
   pub rank_none : (r : Result ℕ ℕ) → IsSearchInRange r (length list) →
       IsBinarySearchResult (λ q. order q p) list r → (result : Option ℕ) →
       result ≡ result_ok r → IsNone result ↔ (Contains list p → ⊥)
@@ -88,6 +93,7 @@ module _ (list : List (List ℕ))
     λ no. subst IsNone (sym e) refl,
   )
 
+  -- A rank is the place of the partition in the list, and the other way round.
   pub rank_some : (r : Result ℕ ℕ) → IsSearchInRange r (length list) →
       IsBinarySearchResult (λ q. order q p) list r → (result : Option ℕ) →
       result ≡ result_ok r →

@@ -53,6 +53,7 @@ set-shrink (suc n) (suc k) (p ∷ parts) h c few =
     simp less_one
     (ap (λ xs. p ∷ xs) (set-shrink n k parts (IsPartition-tail p parts h) (corner-tail p parts k c) (omega arith)))
 
+-- With 1 less at place k.
 abbrev pub less_at : List ℕ → ℕ → List ℕ
 less_at array k = slice_set array k (slice_index array k - 1)
 

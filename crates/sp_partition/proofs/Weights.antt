@@ -15,6 +15,7 @@ abbrev pub weight : List ℕ → ℕ
 weight [] = 0
 weight (x ∷ xs) = x * 256 ^ length xs + weight xs
 
+-- Each number is below 256.
 abbrev pub AreBytes : List ℕ → Type 0
 AreBytes xs = AllByRecursion (λ x. x < 256) xs
 

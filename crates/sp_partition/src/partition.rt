@@ -107,6 +107,16 @@ impl Partition {
         &self.parts[..self.count as usize]
     }
 
+    /// The number of rows, which is that of the parts.
+    #[tactic(auto, using(crate::proofs::Holding::few_parts))]
+    pub fn row_count(&self) -> u8
+        ensures value { result ≡ length self.now }
+        ensures small { result ≤ CAPACITY }
+        ensures held { IsHeld self.now }
+    {
+        self.parts().len() as u8
+    }
+
     /// Whether no `e` of the parts are equal.
     pub fn is_regular(&self, e: u8) -> bool
         requires { 2 ≤ e }
