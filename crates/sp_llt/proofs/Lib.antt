@@ -11,3 +11,4 @@ pub mod Giving
 pub mod Found
 pub mod Laws
 pub mod NoStray
+pub mod Firsts

@@ -10,7 +10,7 @@ use Rattle.sp_algebra.proofs.Coefficients.{Above, Above-lower, Canonical}
 use Rattle.sp_algebra.proofs.Canonical.{canonical-from}
 use Rattle.sp_algebra.proofs.Laws.{coefficient-plus, coefficient-negate, lift_unique, lift-low}
 use Rattle.sp_algebra.proofs.Values.{first_positive, positive_above}
-use Rattle.sp_lists.proofs.Elements.{same_tests}
+use Rattle.sp_lists.proofs.Elements.{and_split, same_tests}
 
 -- ---- the lift
 
@@ -63,14 +63,10 @@ all_above : (p : Laurent) → Above (pos 0) p → is_positive p ≡ true
 all_above [] a = refl
 all_above ((k, c) ∷ p) (a, h) = ap (λ b. b && is_positive p) (above_test k a) ∙ all_above p h
 
-both : (a b : Bool) → (a && b) ≡ true → (a ≡ true) × (b ≡ true)
-both true b e = (refl, e)
-both false b e = absurd (cc)
-
 above_all : (p : Laurent) → is_positive p ≡ true → Above (pos 0) p
 above_all [] e = tt
 above_all ((k, c) ∷ p) e =
-    let h = both (is_gt (int_cmp k (pos 0))) (is_positive p) e in
+    let h = and_split (is_gt (int_cmp k (pos 0))) (is_positive p) e in
     (tested_above k h.0, above_all p h.1)
 
 positive_test : (p : Laurent) → Canonical p → IsPositive p → is_positive p ≡ true

@@ -8,3 +8,4 @@ pub mod Refusals
 pub mod Search
 pub mod Reached
 pub mod Table
+pub mod Filled

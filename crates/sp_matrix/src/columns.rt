@@ -2,7 +2,7 @@
 ghost use Rattle.std.specs.Prelude.{◌≡◌, ◌++◌, ◌∷◌, [], IfOk, IfErr, OnOk, IsErrOf};
 ghost use Rattle.std.specs.Prelude.{map, reverse, None as Nothing, Some as Just};
 ghost use Rattle.sp_llt.specs.Place.{labels};
-ghost use Rattle.sp_pool.specs.Filled.{IsFilled};
+ghost use Rattle.sp_llt.specs.Filled.{IsFilled};
 ghost use Rattle.sp_matrix.specs.Refusal.{refused_column};
 ghost use Rattle.sp_matrix.specs.Scope.{within};
 ghost use Rattle.sp_matrix.specs.Walk.{row_of, vectors_of};

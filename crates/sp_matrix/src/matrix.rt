@@ -3,7 +3,7 @@ ghost use Rattle.std.specs.Prelude.{◌≡◌, IfOk, OnOk, IsErrOf, map, reverse
 ghost use Rattle.sp_llt.specs.Place.{labels};
 ghost use Rattle.sp_module_defs.specs.Cells.{cell_at};
 ghost use Rattle.sp_module_defs.specs.Cells.{IsSquareUnitriangular};
-ghost use Rattle.sp_pool.specs.Filled.{IsFilled};
+ghost use Rattle.sp_llt.specs.Filled.{IsFilled};
 ghost use Rattle.sp_matrix.specs.Matrix.{columns_of, in_block, matrix, decomposition_of, block_of};
 ghost use Rattle.sp_matrix.specs.Refusal.{refused_column};
 ghost use Rattle.sp_matrix.specs.Scope.{table_of, within};

@@ -1,7 +1,7 @@
 // All entries of a context, made on the caller's thread.
 ghost use Rattle.std.specs.Prelude.{◌≡◌, ◌<◌, IfOk, length};
 ghost use Rattle.sp_llt.specs.Place.{labels, place};
-ghost use Rattle.sp_pool.specs.Filled.{IsFilled, HasFirst};
+ghost use Rattle.sp_llt.specs.Filled.{IsFilled, HasFirst};
 
 use sp_llt::{Builder, Ctx, Entry};
 use std::alloc::{AllocError, Global};

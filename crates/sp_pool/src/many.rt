@@ -2,7 +2,7 @@
 ghost use Rattle.std.specs.Prelude.{◌≡◌, ◌<◌, ◌≤◌, IfOk, length};
 ghost use Rattle.std.specs.Arc.{arc_value};
 ghost use Rattle.sp_llt.specs.Place.{labels, place};
-ghost use Rattle.sp_pool.specs.Filled.{IsFilled, HasFirst};
+ghost use Rattle.sp_llt.specs.Filled.{IsFilled, HasFirst};
 
 use crate::Gate;
 use crate::alone::entry_from;

@@ -2,7 +2,7 @@
 ghost use Rattle.std.specs.Prelude.{◌≡◌, ◌≤◌, ◌<◌, ◌^◌, true, false, IfOk, OnOk, IsErrOf};
 ghost use Rattle.sp_module_defs.specs.Cells.{cell_at};
 ghost use Rattle.sp_matrix.specs.Agreements.{HasAll, agreement_of, is_past};
-ghost use Rattle.sp_pool.specs.Filled.{IsFilled};
+ghost use Rattle.sp_llt.specs.Filled.{IsFilled};
 
 use sp_fock::Grid;
 use sp_llt::{Ctx, Entry};

@@ -11,8 +11,8 @@ use Rattle.sp_llt.specs.declared.refused.FirstRefused.{FirstRefused}
 use Rattle.sp_llt.specs.Found.{outcome_told}
 use Rattle.sp_llt.specs.Place.{Place, place, label, labels}
 use Rattle.sp_llt.specs.Refusals.{refused_as, or_else, outcome_at}
-use Rattle.sp_pool.specs.Filled.{IsFilled}
-use Rattle.sp_pool.proofs.Firsts.{first_count, first_entry}
+use Rattle.sp_llt.specs.Filled.{IsFilled}
+use Rattle.sp_llt.proofs.Firsts.{first_count, first_entry}
 use Rattle.sp_matrix.specs.Refusal.{refused_column}
 use Rattle.sp_matrix.specs.Scope.{is_in, within}
 use Rattle.sp_matrix.specs.Walk.{row_of, vectors_of}

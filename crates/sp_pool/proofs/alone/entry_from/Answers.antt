@@ -1,6 +1,6 @@
 use Rattle.std.proofs.Common.{◌<◌, sym, ◌∙◌, ap, subst, arith, Some}
 use Rattle.sp_llt.specs.Place.{Place, Progress}
-use Rattle.sp_pool.proofs.Firsts.{first_count, first_entry}
+use Rattle.sp_llt.proofs.Firsts.{first_count, first_entry}
 use Rattle.sp_pool.proofs.alone.entry_from.Goals as goal
 
 pub loop-j-init : goal.loop-j-init

@@ -1,6 +1,6 @@
 use Rattle.std.proofs.Common.{◌+◌, sym, subst}
-use Rattle.sp_pool.specs.Filled.{HasFirst}
-use Rattle.sp_pool.proofs.Firsts.{first_more}
+use Rattle.sp_llt.specs.Filled.{HasFirst}
+use Rattle.sp_llt.proofs.Firsts.{first_more}
 use Rattle.sp_pool.proofs.many.collect.Goals as goal
 
 pub loop-k-preserved : goal.loop-k-preserved

@@ -9,12 +9,14 @@ use Rattle.std.specs.declared.alloc.Global.{Global}
 use Rattle.sp_lists.proofs.Elements.{range_snoc}
 use Rattle.sp_core.specs.declared.piece.Key.{Key}
 use Rattle.sp_llt.specs.Place.{Place, place}
-use Rattle.sp_pool.specs.Filled.{HasFirst}
+use Rattle.sp_llt.specs.Filled.{HasFirst}
 
+-- there are n entries of the ranks below n
 pub first_count : (key : Key) (n : ℕ) (rows : List (Arc Place Global)) → HasFirst key n rows → length rows ≡ n
 first_count key n rows h =
     sym (length-map rows arc_value) ∙ ap length h ∙ length-map-range_with_len (place key) 0 n
 
+-- the element j is the entry of rank j
 pub first_entry : (key : Key) (n j : ℕ) (rows : List (Arc Place Global)) (a : Arc Place Global) → HasFirst key n rows →
     j < n → a ≡ get_or rows j a → arc_value a ≡ place key j
 first_entry key n j rows a h lt at =
@@ -23,6 +25,7 @@ first_entry key n j rows a h lt at =
     ∙ ap (λ xs. get_or xs j (arc_value a)) h
     ∙ get_or-map-range_with_len (place key) 0 n j j (arc_value a) lt (omega arith)
 
+-- with the entry of the next rank there is one more
 pub first_more : (key : Key) (k : ℕ) (rows : List (Arc Place Global)) (a : Arc Place Global) → HasFirst key k rows →
     arc_value a ≡ place key k → HasFirst key (k + 1) (rows ++ (a ∷ []))
 first_more key k rows a h is =
