@@ -35,10 +35,12 @@ end_is (d ∷ ds) rest (suc end) (h, hs) plain e = ap suc (end_is ds rest end hs
       there = λ lt. e.there (omega arith);
     }
 
+-- The text is cut at `end` into digits and the rest.
 pub record SplitsAt (text digits rest : List ℕ) (end : ℕ) : Type 0 where
   pub front : take end text ≡ digits
   pub back : drop end text ≡ rest
 
+-- where the digits in front end, the text is cut into the digits and the rest
 pub splits_digits : (text digits rest : List ℕ) (end : ℕ) → AllDigits 10 digits → IsPlain rest → text ≡ digits ++ rest →
     EndsDigits text end → SplitsAt text digits rest end
 splits_digits text digits rest end h plain is e =
@@ -47,6 +49,7 @@ splits_digits text digits rest end h plain is e =
 
 -- ---- the number that digits write
 
+-- one more digit, by sums and products that stop at the greatest number
 pub value_next : (ds : List ℕ) (i value tens unit whole : ℕ) → i < length ds →
     (AllDigits 10 ds → digits_value 10 (take i ds) < 2 ^ 128 → value ≡ digits_value 10 (take i ds)) →
     unit ≡ slice_index ds i - 48 → tens ≡ min (value * 10) (2 ^ 128 - 1) → whole ≡ min (tens + unit) (2 ^ 128 - 1) →
@@ -59,11 +62,13 @@ value_next ds i value tens unit whole lt so_far is_unit is_tens is_whole h small
     let before : value ≡ digits_value 10 (take i ds) = so_far h (omega arith) in
     omega arith
 
+-- the decimal text of a number is a numeral, and its digits write the number
 pub numeral : (n : ℕ) → n < 2 ^ 128 → IsNumeral 10 (decimal n) × (digits_value 10 (decimal n) ≡ n)
 numeral n h = decimal_is_IsNumeral_wide n (omega arith)
 
 -- ---- marks
 
+-- a sign is no digit
 pub sign_plain : (rest : List ℕ) → IsSigned rest → IsPlain rest
 sign_plain [] h = tt
 sign_plain (c ∷ rest) (inl e) = ap is_ascii_digit e
@@ -77,6 +82,7 @@ pub record StartsWithin (least most : ℕ) (text : List ℕ) : Type 0 where
   pub above : least ≤ first
   pub below : first ≤ most
 
+-- a text with another first byte does not begin with the mark
 pub other_mark : (mark least most : ℕ) (text rest : List ℕ) → (mark < least) ⊎ (most < mark) →
     StartsWithin least most text → behind_mark mark (text ++ rest) ≡ None
 other_mark mark least most text rest out s =
@@ -95,5 +101,6 @@ starts_digit (d ∷ ds) h =
     let range = digit_from_value d h.1.0 in
     record { first = d; others = ds; is = refl; above = range.0; below = range.1 }
 
+-- the decimal text of a number begins with a digit
 pub decimal_starts : (n : ℕ) → n < 2 ^ 128 → StartsWithin 48 57 (decimal n)
 decimal_starts n h = starts_digit (decimal n) (numeral n h).0

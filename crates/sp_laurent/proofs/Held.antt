@@ -11,6 +11,7 @@ use Rattle.sp_algebra.proofs.Sizes.{size_negate, size_bar, within_negate, within
 use Rattle.sp_algebra.proofs.Sizes.{size-cons, size-monomial, within_monomial, size_plus, size_times, within_plus, within_times}
 use Rattle.sp_laurent.specs.Held.{IsHeld, power_limit}
 
+-- 0 may be held
 pub held_nought : IsHeld []
 unfolding collect
 held_nought = record { laurent = refl; small = omega arith; powers = tt }
@@ -19,6 +20,7 @@ IsLaurent-monomial : (k c : ℤ) → IsLaurent (monomial k c)
 unfolding collect add_term
 IsLaurent-monomial k c = IsLaurent-collect ((k, c) ∷ [])
 
+-- c * v^k may be held where its size and power are within the limits
 pub held_monomial : (k c : ℤ) → unsigned_abs c < 2 ^ 127 → unsigned_abs k ≤ power_limit → IsHeld (monomial k c)
 held_monomial k c small within = record {
   laurent = IsLaurent-monomial k c;
@@ -26,6 +28,7 @@ held_monomial k c small within = record {
   powers = within_monomial power_limit k c within;
 }
 
+-- a sum with a product may be held where its sizes and powers are within the limits
 pub held_sum : (p a b : Laurent) → IsHeld p → size p + size a * size b < 2 ^ 127 → ProductWithin power_limit a b
     → IsHeld (plus p (times a b))
 held_sum p a b held small within = record {
@@ -39,6 +42,7 @@ pub add_none : (p a b : Laurent) → IsLaurent p → (a ≡ []) ⊎ (b ≡ []) �
 add_none p a b h (inl e) = sym (ap (plus p) (ap (λ q. times q b) e ∙ nought_times b) ∙ plus_nought p h)
 add_none p a b h (inr e) = sym (ap (plus p) (ap (times a) e ∙ times_nought a) ∙ plus_nought p h)
 
+-- a negation may be held
 pub held_negate : (p : Laurent) → IsHeld p → IsHeld (negate p)
 held_negate p held = record {
   laurent = IsLaurent-negate p;
@@ -46,6 +50,7 @@ held_negate p held = record {
   powers = within_negate power_limit p held.powers;
 }
 
+-- a bar may be held
 pub held_bar : (p : Laurent) → IsHeld p → IsHeld (bar p)
 held_bar p held = record {
   laurent = IsLaurent-bar p;
@@ -53,6 +58,7 @@ held_bar p held = record {
   powers = within_bar power_limit p held.powers;
 }
 
+-- a power of v times a polynomial may be held where its powers are within the limit
 pub held_shifted : (k : ℤ) (p : Laurent) → IsHeld p → ProductWithin power_limit (power k) p → IsHeld (times (power k) p)
 held_shifted k p held within = record {
   laurent = IsLaurent-times (power k) p;

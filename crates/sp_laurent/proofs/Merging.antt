@@ -22,14 +22,17 @@ parted p h k i j d le in_range below = elim (cases_lt i j) [
   | inr ge ↦ subst (λ n. int_lt (get_or p n d).0 k ≡ true) {x = j} (omega arith) below
 ]
 
+-- the back of a canonical list is canonical
 pub canonical_right : (p q : Laurent) → Canonical (p ++ q) → Canonical q
 canonical_right [] q h = h
 canonical_right ((k, c) ∷ p) q (ne, (a, h)) = canonical_right p q h
 
+-- what stands above k, element by element
 pub all_above : (k : ℤ) (p : Laurent) → Above k p → AllByRecursion (λ t. k <ℤ t.0) p
 all_above k [] h = tt
 all_above k ((j, c) ∷ p) (lt, h) = (lt, all_above k p h)
 
+-- terms that each stand above k stand above k as a list
 pub above_all : (k : ℤ) (p : Laurent) → AllByRecursion (λ t. k <ℤ t.0) p → Above k p
 above_all k [] h = tt
 above_all k ((j, c) ∷ p) (lt, h) = (lt, above_all k p h)
@@ -41,6 +44,7 @@ first_there [] k d h some same = absurd (omega arith)
 first_there ((j, c) ∷ rest) k d (ne, h) some same =
     ap₂ (λ p q. p ++ q) (put-nonzero k c [] ne) (rest-cons (j, c) rest) ∙ ap (λ l. (l, c) ∷ rest) (sym same)
 
+-- the terms behind the first of a canonical list are above its power
 pub rest_above : (terms : Laurent) (k : ℤ) (d : Term) → Canonical terms → 1 ≤ length terms → (get_or terms 0 d).0 ≡ k
     → AllByRecursion (λ t. k <ℤ t.0) (take (length terms - 1) (drop 1 terms))
 rest_above [] k d h some same = absurd (omega arith)
@@ -80,6 +84,7 @@ below_point p k n point = all_take (λ t. t.0 <ℤ k) p n
     below : (a b : ℤ) → int_lt a b ≡ true → a <ℤ b
     below a b e = grind (arith, ints)
 
+-- from the place where no power is below k, none is
 pub above_point : (p : Laurent) (k : ℤ) (n : ℕ) → AllWithin (λ t. int_lt t.0 k ≡ false) p n (length p)
     → AllByRecursion (λ t. k ≤ℤ t.0) (drop n p)
 above_point p k n point = all_drop (λ t. k ≤ℤ t.0) p n
@@ -103,12 +108,14 @@ there_small k d below others above terms e1 e2 =
 
 -- ---- what the code appends
 
+-- two appended parts, and the rest, in one bracket
 pub appended : (sum0 sum1 sum2 below m rest : Laurent) → sum1 ≡ sum0 ++ below → sum2 ≡ sum1 ++ m
     → sum2 ++ rest ≡ sum0 ++ (below ++ (m ++ rest))
 appended sum0 sum1 sum2 below m rest e1 e2 =
     ap (λ s. s ++ rest) (e2 ∙ ap (λ s. s ++ m) e1) ∙ append_assoc (sum0 ++ below) m rest
     ∙ append_assoc sum0 below (m ++ rest)
 
+-- no power is above k after parts whose powers are not were appended
 pub appended_low : (sum0 sum1 sum2 below m : Laurent) (k : ℤ) → sum1 ≡ sum0 ++ below → sum2 ≡ sum1 ++ m
     → AllByRecursion (λ t. t.0 <ℤ k) below → AllByRecursion (λ t. t.0 ≤ℤ k) m
     → AllByRecursion (λ t. t.0 <ℤ k) sum0 → AllByRecursion (λ t. t.0 ≤ℤ k) sum2

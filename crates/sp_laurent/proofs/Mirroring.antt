@@ -16,10 +16,12 @@ pub record IsTurning (terms before out rest : Laurent) : Type 0 where
 
 module _ (terms before out rest rest' : Laurent) (t : Term) (h : IsTurning terms before out rest)
     (last : rest ≡ rest' ++ (t ∷ [])) where
+  -- the last term that is left has a power within the limit
   pub last_within : unsigned_abs t.0 ≤ power_limit
   last_within = (all_right (λ u. unsigned_abs u.0 ≤ power_limit) rest' (t ∷ [])
       (subst (PowersWithin power_limit) last h.within)).0
 
+  -- one more term, taken from the end
   pub turning_more : (out' : Laurent) → out' ≡ out ++ ((neg_ℤ t.0, t.1) ∷ []) → IsTurning terms before out' rest'
   turning_more out' e = record {
     turned =
@@ -33,6 +35,7 @@ module _ (terms before out rest rest' : Laurent) (t : Term) (h : IsTurning terms
         (subst (PowersWithin power_limit) last h.within);
   }
 
+-- after the last one
 pub turning_all : (terms before out rest : Laurent) → length rest ≡ 0 → IsTurning terms before out rest
     → out ≡ before ++ reverse (mirrored terms)
 turning_all terms before out [] none h = sym (append-nil out) ∙ h.turned

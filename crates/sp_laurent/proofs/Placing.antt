@@ -116,6 +116,7 @@ module _ (terms above : Laurent) (place : ℕ) (k c there : ℤ) (h : IsParted t
       (all_append (λ t. t.0 ≤ℤ k) (take place terms) ((k, c +ℤ there) ∷ []) (not_above (take place terms) h.low)
       (omega (arith, ints), tt))
 
+  -- behind the sum is a place of the list, or its end
   pub parted_behind : (new : Laurent) → c +ℤ there ≢ pos 0 → new ≡ add_term k c terms → place + 1 ≤ length new
   parted_behind new ne e = omega (arith, ap length (front_is new ne e), length-append front above, front_long)
 
@@ -158,18 +159,21 @@ module _ (terms slice above : Laurent) (place : ℕ) (k k' there : ℤ) (same : 
   from_place : take (length slice - place) (drop place slice) ≡ drop place terms
   from_place = take_rest slice place ∙ ap (drop place) same
 
+  -- the terms from the place on are a polynomial
   pub from_place_laurent : IsLaurent terms → IsLaurent (take (length slice - place) (drop place slice))
   from_place_laurent h =
       subst IsLaurent (sym from_place) (IsLaurent-canonical (drop place terms)
       (canonical_right (take place terms) (drop place terms)
       (subst Canonical (sym (take-append-drop place terms)) (canonical-from terms h))))
 
+  -- the terms from the place on are not below the power
   pub from_place_high : AllByRecursion (λ t. k ≤ℤ t.0) (drop place terms)
       → AllByRecursion (λ t. k' ≤ℤ t.0) (take (length slice - place) (drop place slice))
   from_place_high high =
       subst (λ q. AllByRecursion (λ t. k' ≤ℤ t.0) q) (sym from_place)
       (subst (λ j. AllByRecursion (λ t. j ≤ℤ t.0) (drop place terms)) (sym back) high)
 
+  -- the coefficient that is found there, and the terms above, part the list at the place
   pub from_place_parted : AllByRecursion (λ t. t.0 <ℤ k) (take place terms)
       → monomial k' there ++ above ≡ take (length slice - place) (drop place slice)
       → AllByRecursion (λ t. k' <ℤ t.0) above → IsParted terms above place k there
@@ -180,6 +184,7 @@ module _ (terms slice above : Laurent) (place : ℕ) (k k' there : ℤ) (same : 
     high = subst (λ j. AllByRecursion (λ t. j <ℤ t.0) above) back high;
   }
 
+  -- the coefficient that is found there is at most the size
   pub from_place_small : monomial k' there ++ above ≡ take (length slice - place) (drop place slice)
       → unsigned_abs there ≤ size terms
   from_place_small joined = there_small k' there (take place terms) (drop place terms) above terms

@@ -15,13 +15,16 @@ use Rattle.sp_laurent.proofs.Multiple.{size-take_next}
 pub record IsPartSum (terms few many sum : Laurent) (n : ℕ) : Type 0 where
   pub is : sum ≡ plus terms (times (take n few) many)
 
+-- before the first term
 pub part_none : (terms few many : Laurent) → IsLaurent terms → IsPartSum terms few many terms 0
 part_none terms few many h = record { is = sym (ap (plus terms) (nought_times many) ∙ plus_nought terms h) }
 
 module _ (terms few many sum : Laurent) (n : ℕ) (h : IsPartSum terms few many sum n) where
+  -- what was added up so far is a polynomial
   pub part_laurent : IsLaurent sum
   part_laurent = subst IsLaurent (sym h.is) (IsLaurent-plus terms (times (take n few) many))
 
+  -- where the whole sum has a size below m, so has the sum with the next term's multiple
   pub part_fits : (d : Term) (m : ℕ) → n < length few → size terms + size few * size many < m
       → size sum + unsigned_abs (get_or few n d).1 * size many < m
   part_fits d m lt fits =
@@ -33,6 +36,7 @@ module _ (terms few many sum : Laurent) (n : ℕ) (h : IsPartSum terms few many 
         mul-le-mul_right (size many) (size-take_next few n d lt),
       )
 
+  -- one more term's multiple
   pub part_more : (d : Term) (sum' : Laurent) → n < length few → sum' ≡ plus sum (times (get_or few n d ∷ []) many)
       → IsPartSum terms few many sum' (n + 1)
   part_more d sum' lt e = record {

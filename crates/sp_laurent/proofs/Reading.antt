@@ -30,6 +30,7 @@ power_starts k =
           record { first = 118; others = 94 ∷ signed_decimal k; is = refl; above = omega arith; below = omega arith }
     ]
 
+-- no digit stands in front of a power and the rest
 pub power_plain : (k : ℤ) (rest : List ℕ) → IsSigned rest → IsPlain (power_part k ++ rest)
 power_plain k rest h =
     elim (int_eq k (pos 0)) as (λ b. IsPlain (cond b [] (power_text k) ++ rest)) [
@@ -54,6 +55,7 @@ by_one n P one other = elim (n == 1) as (λ b. (n == 1) ≡ b → P b) [
   | false ↦ λ e. other
 ] refl
 
+-- the text of a term begins in one of the two ways
 pub term_cases : (k c : ℤ) (rest text : List ℕ) → text ≡ term_text (k, c) ++ rest →
     TermText (unsigned_abs c) k (power_part k) rest text
 unfolding term_text
@@ -87,6 +89,7 @@ onward text more low high s = record {
   below = s.below;
 }
 
+-- the text of a term begins with a digit or with v
 pub term_starts : (k c : ℤ) → unsigned_abs c < 2 ^ 127 → StartsWithin 48 118 (term_text (k, c))
 unfolding term_text
 term_starts k c small =
@@ -119,6 +122,7 @@ pub data SignText (t : Term) (rest text : List ℕ) : Type 0 where
   minus : is_negative t ≡ true → text ≡ 45 ∷ (term_text t ++ rest) → SignText t rest text
   unmarked : is_negative t ≡ false → text ≡ term_text t ++ rest → SignText t rest text
 
+-- a text that begins with a term begins in one of the three ways
 pub sign_cases : (t : Term) (rest text : List ℕ) → Begins t rest text → SignText t rest text
 sign_cases t rest text h = split h.is
   where
@@ -136,6 +140,7 @@ sign_cases t rest text h = split h.is
     split (inl is) = first (is_negative t) refl is
     split (inr is) = later (is_negative t) refl is
 
+-- what stands behind a term is shorter than the text
 pub rest_shorter : (t : Term) (rest text : List ℕ) → Begins t rest text → length rest < length text
 rest_shorter (k, c) rest text h = by_sign (sign_cases (k, c) rest text h)
   where
@@ -152,6 +157,7 @@ rest_shorter (k, c) rest text h = by_sign (sign_cases (k, c) rest text h)
 
 -- ---- what the reader finds
 
+-- a number is its absolute value with its sign
 pub signed_is : (z : ℤ) → cond (int_lt z (pos 0)) (neg_ℤ (pos (unsigned_abs z))) (pos (unsigned_abs z)) ≡ z
 signed_is (pos n) = grind (arith, ints)
 signed_is (negsuc n) = grind (arith, ints)
@@ -172,6 +178,7 @@ pub record Whole (z : ℤ) (rest : List ℕ) (negative : Bool) (number : ℕ) (l
   pub size : number ≡ unsigned_abs z
   pub behind : left ≡ rest
 
+-- a whole number in front is read by its sign and its absolute value
 pub whole_read : (z : ℤ) (rest text digits left : List ℕ) (negative : Bool) (number : ℕ) → unsigned_abs z < 2 ^ 128 →
     IsPlain rest → text ≡ signed_decimal z ++ rest → Minus text negative digits → Number digits number left →
     Whole z rest negative number left
@@ -192,6 +199,7 @@ whole_read (negsuc n) rest text digits left negative number small plain is m h =
     below : (n : ℕ) → true ≡ int_lt (negsuc n) (pos 0)
     below n = grind (arith, ints)
 
+-- where the text of a term begins with v, its coefficient is 1 or -1
 pub factor_one : (k c : ℤ) (rest text behind : List ℕ) → unsigned_abs c < 2 ^ 127 → text ≡ term_text (k, c) ++ rest →
     behind_mark 118 text ≡ Some behind → (1 ≡ unsigned_abs c) × (text ≡ power_part k ++ rest)
 factor_one k c rest text behind small is some = by_term (term_cases k c rest text is)
@@ -204,6 +212,7 @@ factor_one k c rest text behind small is some = by_term (term_cases k c rest tex
         ∙ other_mark 118 48 57 (decimal (unsigned_abs c)) (power_part k ++ rest) (inr (omega arith))
         (decimal_starts (unsigned_abs c) (omega arith))))
 
+-- where the text of a term does not begin with v, it begins with the coefficient's absolute value
 pub factor_counted : (k c : ℤ) (rest text : List ℕ) → text ≡ term_text (k, c) ++ rest → behind_mark 118 text ≡ None →
     text ≡ decimal (unsigned_abs c) ++ (power_part k ++ rest)
 factor_counted k c rest text is none = by_term (term_cases k c rest text is)
@@ -220,6 +229,7 @@ factor_counted k c rest text is none = by_term (term_cases k c rest text is)
         ∙ v_first (power_text k) (power_starts k)) ∙ none))
     by_term (counted i) = i
 
+-- a term behind a plus is not negative
 pub sign_plus : (t : Term) (rest text behind : List ℕ) → Begins t rest text → behind_mark 43 text ≡ Some behind →
     (false ≡ is_negative t) × (behind ≡ term_text t ++ rest)
 sign_plus (k, c) rest text behind h some = by_sign (sign_cases (k, c) rest text h)
@@ -231,6 +241,7 @@ sign_plus (k, c) rest text behind h some = by_sign (sign_cases (k, c) rest text 
         absurd (some_none (sym some ∙ ap (behind_mark 43) i
         ∙ other_mark 43 48 118 (term_text (k, c)) rest (inl (omega arith)) (term_starts k c h.small.coefficient)))
 
+-- a term with no plus in front is negative where a minus stands there, and only then
 pub sign_other : (t : Term) (rest text behind : List ℕ) (negative : Bool) → Begins t rest text →
     behind_mark 43 text ≡ None → Minus text negative behind →
     (negative ≡ is_negative t) × (behind ≡ term_text t ++ rest)

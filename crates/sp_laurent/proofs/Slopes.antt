@@ -14,6 +14,7 @@ use Rattle.sp_laurent.proofs.Machine.{mul_back, small_fits}
 abbrev pub slope_weight : Laurent → ℕ
 slope_weight p = sum_by (λ t. unsigned_abs t.0 * unsigned_abs t.1) p
 
+-- the slope of 0 is 0
 pub slope-nought : slope_at_one [] ≡ pos 0
 unfolding int_sum
 slope-nought = refl
@@ -41,6 +42,7 @@ slope-more p i d lt =
 triangle : (a b : ℤ) → unsigned_abs (a +ℤ b) ≤ unsigned_abs a + unsigned_abs b
 triangle a b = omega (arith, ints)
 
+-- the slope is no further from 0 than the weight
 pub slope_le : (p : Laurent) → unsigned_abs (slope_at_one p) ≤ slope_weight p
 unfolding int_sum
 slope_le [] = omega (arith, ints)
@@ -59,6 +61,7 @@ pub weight-more : (p : Laurent) (i : ℕ) (d : Term) → i < length p
     ≡ slope_weight (take i p) + unsigned_abs (get_or p i d).0 * unsigned_abs (get_or p i d).1
 weight-more p i d lt = sum_by_more (λ t. unsigned_abs t.0 * unsigned_abs t.1) p i d lt
 
+-- the weight of a first part and one more term is at most the whole
 pub weight_more_le : (p : Laurent) (i : ℕ) (d : Term) → i < length p
     → slope_weight (take i p) + unsigned_abs (get_or p i d).0 * unsigned_abs (get_or p i d).1 ≤ slope_weight p
 weight_more_le p i d lt = sum_by_more_le (λ t. unsigned_abs t.0 * unsigned_abs t.1) p i d lt
@@ -102,12 +105,14 @@ module _
       ≡ slope_at_one (take (i + 1) p)
   sum = ap₂ (λ x y. x +ℤ y) is (product ∙ ap (λ k. k *ℤ (get_or p i d).1) read) ∙ sym (slope-more p i d lt)
 
+  -- the slope with one more term fits
   pub slope_fits :
       SFits w128 (slope +ℤ to_z w128
       (of_z w128 (to_z w128 (of_z w128 power) *ℤ to_z w128 (of_z w128 (get_or p i d).1))))
   slope_fits = subst (λ x. SFits w128 x) (sym sum) (small_fits (slope_at_one (take (i + 1) p))
       (omega (arith, slope_le (take (i + 1) p), weight-more p i d lt, light, whole, most)))
 
+  -- the slope and the room that is left, after one more term
   pub slope_next :
       (to_z w128 (of_z w128 (slope +ℤ to_z w128
       (of_z w128 (to_z w128 (of_z w128 power) *ℤ to_z w128 (of_z w128 (get_or p i d).1)))))

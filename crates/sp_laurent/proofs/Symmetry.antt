@@ -8,6 +8,7 @@ use Rattle.std.proofs.lemmas.List.{get_or-map, get_or-reverse, ext_get_or, lengt
 use Rattle.sp_defs.specs.Laurent.{Laurent, Term}
 use Rattle.sp_algebra.proofs.Mirrored.{mirrored}
 
+-- the term with its power negated
 abbrev pub mirror : Term → Term
 mirror t = (neg_ℤ t.0, t.1)
 
@@ -22,6 +23,7 @@ get_or-turned p i d lt =
     ∙ ap (λ n. get_or (mirrored p) (n - 1 - i) d) (length-map p mirror)
     ∙ get_or-map mirror p (length p - 1 - i) d d (omega arith)
 
+-- where one term is the mirror of another, so is the other of it
 pub mirror_twice : (a b : Term) → a ≡ mirror b → b ≡ mirror a
 mirror_twice (j, c) (k, d) e = ap₂ (λ x y. (x, y)) (powers j k (ap (λ t. t.0) e)) (sym (ap (λ t. t.1) e))
   where
@@ -39,6 +41,7 @@ matched_everywhere p n half h i d lt = elim (cases_lt i n) [
       (h (length p - 1 - i) d (omega arith) ∙ ap (λ k. mirror (get_or p k d)) e)
 ]
 
+-- where the first half of the terms is matched, the list is its own mirror turned around
 pub matched_all : (p : Laurent) (n : ℕ) → length p ≤ n * 2 → ((i : ℕ) (d : Term) → i < n → IsMatched p i d)
     → reverse (mirrored p) ≡ p
 matched_all p n half h = ext_get_or (pos 0, pos 0) (reverse (mirrored p)) p size
@@ -48,6 +51,7 @@ matched_all p n half h = ext_get_or (pos 0, pos 0) (reverse (mirrored p)) p size
     size : length (reverse (mirrored p)) ≡ length p
     size = length-reverse (mirrored p) ∙ length-map p mirror
 
+-- a list that is its own mirror turned around is matched at each place
 pub matched_at : (p : Laurent) (i : ℕ) (d : Term) → i < length p → reverse (mirrored p) ≡ p → IsMatched p i d
 matched_at p i d lt e = ap (λ q. get_or q i d) (sym e) ∙ get_or-turned p i d lt
 

@@ -1,12 +1,12 @@
 -- The terms of a canonical text, read one by one, and what makes them a polynomial that is read.
-use Rattle.std.proofs.Common.{◌≡◌, ◌≢◌, ℕ, suc, ◌+◌, ◌-◌, ◌<◌, ◌≤◌, ◌^◌, inl, inr, List, [], ◌∷◌, ◌++◌, take, length}
-use Rattle.std.proofs.Common.{flat_map, get_or, cond, codes, refl, sym, ◌∙◌, ap, subst, arith, append_assoc, append-nil}
+use Rattle.std.proofs.Common.{◌≡◌, ◌≢◌, ℕ, suc, ◌+◌, ◌-◌, ◌<◌, ◌≤◌, ◌^◌, inl, inr, List, [], ◌∷◌, ◌++◌, length}
+use Rattle.std.proofs.Common.{flat_map, cond, codes, refl, sym, ◌∙◌, ap, subst, arith, append_assoc, append-nil}
 use Rattle.std.proofs.Common.{pos, ◌<ℤ◌, Bool, true, false}
 use Rattle.std.specs.Prelude.{slice_index_or}
 use Rattle.std.specs.List.{AllByRecursion}
 use Rattle.std.specs.Int.RustNames.{unsigned_abs}
 use Rattle.std.proofs.lemmas.Fmt.{decimal_digit}
-use Rattle.std.proofs.lemmas.List.Sums.{sum_by-cons, sum_by_more, sum_by_more_le}
+use Rattle.std.proofs.lemmas.List.Sums.{sum_by-cons}
 use Rattle.std.proofs.lemmas.List.Concat.{flat_map-cons}
 use Rattle.sp_defs.specs.Laurent.{Laurent, Term, IsLaurent, size, monomial}
 use Rattle.sp_defs.specs.Text.{is_negative, term_text, signed_term_text, polynomial_text}
@@ -60,6 +60,7 @@ later_signed (t ∷ ts) = subst IsSigned (sym (flat_map-cons signed_term_text t 
 own : (t : Term) (ts : Laurent) → t.1 ≢ pos 0 → t ∷ ts ≡ monomial t.0 t.1 ++ ts
 own t ts ne = ap (λ q. q ++ ts) (sym (put-nonzero t.0 t.1 [] ne))
 
+-- a text that is a polynomial's begins with its first term
 pub first_next : (p : Laurent) (text : List ℕ) → IsReadable p → polynomial_text p ≡ text → Next p [] text
 unfolding polynomial_text term_text
 first_next [] text h is = record {
@@ -83,6 +84,7 @@ first_next (t ∷ ts) text h is = record {
   whole = sym (own t ts (canonical-from (t ∷ ts) h.laurent).0);
 }
 
+-- where text is left, it begins with the next term
 pub later_next : (p done : Laurent) (rest : List ℕ) → IsReadable p → rest ≢ [] → Left p done rest → Next p done rest
 later_next p done rest h some l = at l.left l.whole l.text
   where
@@ -100,6 +102,7 @@ later_next p done rest h some l = at l.left l.whole l.text
           (subst Canonical (sym whole) (canonical-from p h.laurent))).0)) ∙ whole;
     }
 
+-- what is left after the next term was read
 pub left_after : (p done now : Laurent) (text rest : List ℕ) (n : Next p done text) →
     rest ≡ flat_map signed_term_text n.others → now ≡ done ++ monomial n.term.0 n.term.1 → Left p now rest
 left_after p done now text rest n is_rest is_now = record {
@@ -108,6 +111,7 @@ left_after p done now text rest n is_rest is_now = record {
   text = is_rest;
 }
 
+-- where no text is left, all terms were read
 pub left_none : (p done : Laurent) (rest : List ℕ) → length rest ≡ 0 → Left p done rest → done ≡ p
 left_none p done rest none l = at l.left l.whole (sym (empty rest none) ∙ l.text)
   where
@@ -124,14 +128,6 @@ left_none p done rest none l = at l.left l.whole (sym (empty rest none) ∙ l.te
         by_sign false e = cc
 
 -- ---- the tests
-
-pub size_next : (p : Laurent) (i : ℕ) (d : Term) → i < length p →
-    size (take (i + 1) p) ≡ size (take i p) + unsigned_abs (get_or p i d).1
-size_next p i d lt = sum_by_more (λ t. unsigned_abs t.1) p i d lt
-
-pub size_passes : (p : Laurent) (i : ℕ) (d : Term) → i < length p →
-    size (take i p) + unsigned_abs (get_or p i d).1 ≤ size p
-size_passes p i d lt = sum_by_more_le (λ t. unsigned_abs t.1) p i d lt
 
 ascends_from : (p : Laurent) → IsLaurent p → Ascends p
 ascends_from p h i least lt = powers_ascend p (canonical-from p h) (i - 1) i (pos 0, pos 0) (omega arith) lt
@@ -152,6 +148,7 @@ canonical_ascending ((k, c) ∷ (j, b) ∷ p) good h =
     let rest = canonical_ascending ((j, b) ∷ p) good.1 (ascends_tail (k, c) ((j, b) ∷ p) h) in
     (good.0.0, ((lt, Above-lower k j p lt rest.1.0), rest))
 
+-- good terms with ascending powers and a small size are a polynomial that is read
 pub readable_from : (p : Laurent) → AllByRecursion IsGood p → Ascends p → size p < 2 ^ 127 → IsReadable p
 readable_from p good ascends small = record {
   laurent = IsLaurent-canonical p (canonical_ascending p good ascends);
@@ -159,9 +156,11 @@ readable_from p good ascends small = record {
   powers = all_weaken IsGood (λ t. unsigned_abs t.0 ≤ read_limit) p (λ t g. g.1) good;
 }
 
+-- a polynomial that is read has ascending powers and a small size
 pub readable_test : (p : Laurent) → IsReadable p → Ascends p × size p < 2 ^ 127
 readable_test p h = (ascends_from p h.laurent, h.small)
 
+-- a polynomial that is read may be held
 pub readable_held : (p : Laurent) → IsReadable p → IsHeld p
 readable_held p h = record {
   laurent = h.laurent;

@@ -16,19 +16,23 @@ first_text t = cond (is_negative t) (codes "-") [] ++ term_text t
 pub record IsWritten (old new : List ℕ) (first : Term) (later : Laurent) (i : ℕ) : Type 0 where
   pub is : new ≡ old ++ (first_text first ++ flat_map signed_term_text (take i later))
 
+-- a polynomial with no term is written 0
 pub no_text : (terms : Laurent) → length terms < 1 → polynomial_text terms ≡ codes "0"
 unfolding polynomial_text
 no_text [] none = refl
 no_text (t ∷ terms) none = absurd (omega arith)
 
+-- after the first term
 pub written_none : (old new : List ℕ) (first : Term) (later : Laurent) → new ≡ old ++ first_text first
     → IsWritten old new first later 0
 written_none old new first later e = record { is = e ∙ ap (λ t. old ++ t) (sym (append-nil (first_text first))) }
 
 module _ (old new : List ℕ) (first : Term) (later : Laurent) (i : ℕ) (h : IsWritten old new first later i) where
+  -- something was appended to the text
   pub written_grown : IsGrown old new
   written_grown = record { added = first_text first ++ flat_map signed_term_text (take i later); is = h.is }
 
+  -- one more term
   pub written_more : (new' : List ℕ) (d : Term) → i < length later
       → new' ≡ new ++ signed_term_text (get_or later i d) → IsWritten old new' first later (i + 1)
   written_more new' d lt e = record {
@@ -49,6 +53,7 @@ module _ (old new : List ℕ) (first : Term) (later : Laurent) (i : ℕ) (h : Is
           ∙ sym (flat_map-append signed_term_text (take i later) (get_or later i d ∷ []))
           ∙ ap (flat_map signed_term_text) (sym (take_more later i d lt))
 
+-- after the last term, the whole text stands behind
 pub written_all : (old new : List ℕ) (terms : Laurent) (d : Term) (i : ℕ) → 1 ≤ length terms
     → length (take (length terms - 1) (drop 1 terms)) ≤ i
     → IsWritten old new (get_or terms 0 d) (take (length terms - 1)

@@ -10,7 +10,7 @@ ghost use Rattle.sp_defs.specs.Within.{PowersWithin, ProductWithin};
 ghost use Rattle.sp_laurent.specs.Held.{IsHeld, power_limit};
 
 use crate::mirror::{lifted, negated, push_mirrored, shifted};
-use crate::products::add_product;
+use crate::products::{add_multiple, add_product};
 use crate::sums::{is_within, push_term, size_of, split_below, split_first};
 use crate::text::print_terms;
 use std::alloc::{AllocError, Global};
@@ -254,6 +254,31 @@ impl Laurent {
         }
         let mut terms = self.terms;
         add_product(&mut terms, &a.terms, &b.terms)?;
+        Ok(Laurent { terms })
+    }
+
+    /// This polynomial and `other * v^power`. It is refused as too large where the sizes of both sum up to more than the
+    /// limit. The sum is made in this polynomial's own memory, which grows only where the sum has more terms.
+    pub fn plus_shifted(
+        self,
+        other: &Laurent,
+        power: i32,
+        limit: u128,
+    ) -> Result<Laurent, LaurentFault>
+        requires least { 1 ≤ limit }
+        requires most { limit < 2 ^ 127 }
+        requires within { ProductWithin power_limit (monomial power (pos 1)) other.now }
+        ensures ok { IfOk result (λ p. p ≡ plus self (times (monomial power (pos 1)) other.now)) }
+        ensures too_large { IsErrOf result LaurentFault.TooLarge ↔ (limit < size self + size other.now) }
+        ensures powers { (d : ℕ) → PowersWithin d self → ProductWithin d (monomial power (pos 1)) other.now
+            → IfOk result (λ p. PowersWithin d p) }
+        ensures held { IfOk result (λ p. IsHeld p) }
+    {
+        if !is_within(limit, self.size(), 1, other.size()) {
+            return Err(LaurentFault::TooLarge);
+        }
+        let mut terms = self.terms;
+        add_multiple(&mut terms, (power, 1), &other.terms)?;
         Ok(Laurent { terms })
     }
 

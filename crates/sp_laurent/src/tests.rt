@@ -41,6 +41,20 @@ fn adds_in_a_slot(rt: HostRuntime) -> Result<(), Fail> {
 }
 
 #[test]
+fn adds_at_other_powers(rt: HostRuntime) -> Result<(), Fail> {
+    let alloc = rt.alloc();
+    let v = Laurent::monomial(alloc, 1, 1)?;
+    let minus = Laurent::monomial(alloc, -1, 0)?;
+    let sum = Laurent::monomial(alloc, 1, 0)?.plus_shifted(&v, -3, 2)?;
+    assert_eq!(rt; sum.terms(), [(-2, 1), (0, 1)].as_slice());
+    let sum = sum.plus_shifted(&minus, 0, 3)?;
+    assert_eq!(rt; sum.terms(), [(-2, 1)].as_slice());
+    let refused = sum.plus_shifted(&v, 1, 1);
+    assert!(rt; matches!(refused, Err(LaurentFault::TooLarge)));
+    Ok(())
+}
+
+#[test]
 fn turns_and_lifts(rt: HostRuntime) -> Result<(), Fail> {
     let alloc = rt.alloc();
     let one = Laurent::monomial(alloc, 1, 0)?;
