@@ -192,11 +192,12 @@ impl Partition {
         Some(shrunk)
     }
 
-    // The lexicographic order of the parts. It is that of the whole arrays, since the zeros behind the parts are less
-    // than any part.
-    pub(crate) fn compare_parts(&self, other: &Partition) -> Ordering
+    /// The lexicographic order of the lists of parts, whatever the degrees. Among partitions of one degree it is the
+    /// order of partitions.
+    pub fn compare_parts(&self, other: &Partition) -> Ordering
         ensures { result ≡ compare self.now other.now }
     {
+        // It is the order of the whole arrays, since the zeros behind the parts are less than any part.
         compare_arrays(&self.parts, &other.parts)
     }
 
