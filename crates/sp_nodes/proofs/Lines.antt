@@ -1,6 +1,6 @@
 -- Lines of numbers, written number by number, and line by line.
 use Rattle.std.proofs.Common.{◌≡◌, ℕ, zero, suc, ◌+◌, ◌-◌, ◌<◌, ◌≤◌, true, cond, nat_lt, List, [], ◌∷◌, ◌++◌, map}
-use Rattle.std.proofs.Common.{flat_map, take, length, codes, refl, sym, ◌∙◌, ap, ap₂, arith, append_assoc}
+use Rattle.std.proofs.Common.{flat_map, take, length, codes, refl, sym, ◌∙◌, ap, arith, append_assoc}
 use Rattle.std.specs.Fmt.{decimal}
 use Rattle.std.specs.List.{range_with_len}
 use Rattle.std.proofs.lemmas.Bool.Decides.{nat_tests}
@@ -8,7 +8,7 @@ use Rattle.std.proofs.lemmas.List.{append-nil}
 use Rattle.std.proofs.lemmas.List.Concat.{flat_map-cons}
 use Rattle.sp_defs.specs.Partition.{from_one_to}
 use Rattle.sp_defs.specs.Text.{joined_by}
-use Rattle.sp_lists.proofs.FlatMaps.{flat_map-range_more}
+use Rattle.sp_lists.proofs.FlatMaps.{appended_step}
 use Rattle.sp_partition.proofs.Kept.{kept_on, kept_append}
 use Rattle.sp_nodes.specs.Texts.{newline, line_text, row_line, grid_text}
 
@@ -58,11 +58,7 @@ pub record Written (old : List ℕ) (gives : ℕ → List ℕ) (now : List ℕ) 
 pub written_more : (old : List ℕ) (gives : ℕ → List ℕ) (now more : List ℕ) (place : ℕ) (piece : List ℕ) → 1 ≤ place →
     more ≡ now ++ piece → piece ≡ gives place → Written old gives now place → Written old gives more (place + 1)
 written_more old gives now more place piece least appended is h = record {
-  text = appended
-      ∙ ap₂ (λ xs ys. xs ++ ys) h.text is
-      ∙ append_assoc old (flat_map gives (range_with_len 1 (place - 1))) (gives place)
-      ∙ ap (λ xs. old ++ xs) (sym (flat_map-range_more gives 1 (place - 1) place (omega arith)))
-      ∙ ap (λ n. old ++ flat_map gives (range_with_len 1 n)) (omega arith);
+  text = appended ∙ ap (λ xs. now ++ xs) is ∙ appended_step gives old now place least h.text;
 }
 
 -- a failed write keeps what stood there before

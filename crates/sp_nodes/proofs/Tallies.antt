@@ -1,10 +1,10 @@
 -- Counts by residue, node by node.
 use Rattle.std.proofs.Common.{◌≡◌, ℕ, ◌+◌, ◌<◌, true, false, cond, nat_eq, List, [], ◌∷◌, ◌++◌, map, length, count_by}
 use Rattle.std.proofs.Common.{slice_index, slice_set, refl, sym, ◌∙◌, ap, inl, inr, arith, get_or-set_same}
-use Rattle.std.proofs.Common.{get_or-set_other, zero-add, add-zero, replicate, zero, suc, length-set}
+use Rattle.std.proofs.Common.{get_or-set_other, zero-add, add-zero, replicate, length-set}
 use Rattle.std.proofs.lemmas.Bool.{cases_eq}
 use Rattle.std.proofs.lemmas.Bool.Decides.{nat_tests}
-use Rattle.std.proofs.lemmas.List.{map-append}
+use Rattle.std.proofs.lemmas.List.{map-append, get_or-replicate}
 use Rattle.std.proofs.lemmas.List.Sums.{sum_by-append}
 use Rattle.sp_defs.specs.Node.{residue}
 use Rattle.sp_nodes.specs.declared.node.Node.{Node}
@@ -21,12 +21,7 @@ pub record Tallied (e : ℕ) (counts : List ℕ) (seen : List Node) : Type 0 whe
 
 -- no node is counted before the first one
 pub tallied_none : (e : ℕ) → Tallied e (replicate 64 0) []
-tallied_none e = record { room = refl; is = λ i below. zeros 64 i }
-  where
-    zeros : (n i : ℕ) → slice_index (replicate n 0) i ≡ 0
-    zeros zero i = refl
-    zeros (suc n) zero = refl
-    zeros (suc n) (suc i) = zeros n i
+tallied_none e = record { room = refl; is = λ i below. get_or-replicate 64 i 0 0 below }
 
 one_more : (e : ℕ) (seen : List Node) (node : Node) (i : ℕ) →
     with_residue e (map pair (seen ++ node ∷ [])) i

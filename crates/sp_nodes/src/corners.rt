@@ -7,7 +7,6 @@ ghost use Rattle.sp_nodes.specs.Marks.{mark_of};
 ghost use Rattle.sp_nodes.specs.Rows.{gained, lost};
 
 use crate::node::{Node, residue};
-use crate::rows::row_count;
 use arrayvec::ArrayVec;
 use sp_partition::Partition;
 
@@ -34,7 +33,7 @@ pub fn addable(e: u8, i: u8, p: &Partition) -> ArrayVec<Node, 33>
     ensures { map pair result.items ≡ of_residue e i (addable_of p.now) }
 {
     let mut found = ArrayVec::new();
-    for row in 1..row_count(p) + 2 {
+    for row in 1..p.row_count() + 2 {
         push_if_some(&mut found, addable_in_row(e, i, p, row));
     }
     found
@@ -48,7 +47,7 @@ pub fn removable(e: u8, i: u8, p: &Partition) -> ArrayVec<Node, 33>
     ensures { map pair result.items ≡ of_residue e i (removable_of p.now) }
 {
     let mut found = ArrayVec::new();
-    for row in 1..row_count(p) + 1 {
+    for row in 1..p.row_count() + 1 {
         push_if_some(&mut found, removable_in_row(e, i, p, row));
     }
     found
@@ -62,7 +61,7 @@ pub fn marks(e: u8, i: u8, p: &Partition) -> ArrayVec<Mark, 33>
     ensures { map mark_of result.items ≡ signature e i p.now }
 {
     let mut found = ArrayVec::new();
-    for row in 1..row_count(p) + 2 {
+    for row in 1..p.row_count() + 2 {
         push_if_some(&mut found, mark_in_row(e, i, p, row));
     }
     found

@@ -8,7 +8,6 @@ ghost use Rattle.sp_nodes.specs.Nodes.{pair, IsPlace};
 ghost use Rattle.sp_nodes.specs.Rows.{row_nodes};
 
 use crate::node::{Node, residue};
-use crate::rows::row_count;
 use arrayvec::ArrayVec;
 use sp_partition::Partition;
 
@@ -18,7 +17,7 @@ pub fn nodes(p: &Partition) -> ArrayVec<Node, 32>
     ensures places { All IsPlace result.items }
 {
     let mut found = ArrayVec::new();
-    for row in 1..row_count(p) + 1 {
+    for row in 1..p.row_count() + 1 {
         push_row(&mut found, row, p.part(row));
     }
     found

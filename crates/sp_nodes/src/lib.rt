@@ -6,7 +6,6 @@
 mod corners;
 mod diagram;
 mod node;
-mod rows;
 mod texts;
 
 pub use corners::{Corner, Mark, addable, marks, removable};

@@ -9,7 +9,6 @@ ghost use Rattle.sp_nodes.specs.Filling.{number_at as number_of, IsFilling};
 
 use crate::diagram::hook;
 use crate::node::{Node, residue};
-use crate::rows::row_count;
 use itoa::Buffer;
 use sp_partition::Partition;
 use std::alloc::{AllocError, Global};
@@ -65,10 +64,10 @@ fn put_rows(out: &mut Vec<u8>, filling: Filling, p: &Partition) -> Result<(), Al
     ensures text { OnOk result (out.new.items ≡ out.old.items ++ grid_text (number_of filling p.now) p.now) }
     ensures kept { OnErr result (take (length out.old.items) out.new.items ≡ out.old.items) }
 {
-    if row_count(p) == 0 {
+    if p.row_count() == 0 {
         return out.extend_from_slice(b"-\n");
     }
-    for row in 1..row_count(p) + 1 {
+    for row in 1..p.row_count() + 1 {
         put_line(out, filling, p, row)?;
     }
     Ok(())
