@@ -39,6 +39,7 @@ use Rattle.sp_fock_law.proofs.Vectors.{AllLater, entries_at, all_at, nonzero_or_
 
 -- ---- one step of the walk
 
+-- an entry of the first list before all of the second comes alone
 pub joined-first : (kappa : List ℕ) (p : Laurent) (es fs : Entries) → AllLater kappa fs
     → joined ((kappa, p) ∷ es) fs ≡ joint kappa p [] ∷ joined es fs
 unfolding joined joined_from
@@ -47,6 +48,7 @@ joined-first kappa p es (f ∷ fs) (h, hs) =
     ap (λ o. match_ordering o (joint kappa p [] ∷ joined es (f ∷ fs)) (joint kappa p f.1 ∷ joined es fs)
     (joint f.0 [] f.1 ∷ joined_from (kappa, p) (joined es) fs)) h
 
+-- an entry of the second list before all of the first comes alone
 pub joined-second : (kappa : List ℕ) (q : Laurent) (es fs : Entries) → AllLater kappa es
     → joined es ((kappa, q) ∷ fs) ≡ joint kappa [] q ∷ joined es fs
 unfolding joined joined_from
@@ -55,6 +57,7 @@ joined-second kappa q (e ∷ es) fs (h, hs) =
     ap (λ o. match_ordering o (joint e.0 e.1 [] ∷ joined es ((kappa, q) ∷ fs)) (joint e.0 e.1 q ∷ joined es fs)
     (joint kappa [] q ∷ joined_from e (joined es) fs)) (later_than kappa e.0 h)
 
+-- entries at one partition come together
 pub joined-both : (kappa : List ℕ) (p q : Laurent) (es fs : Entries)
     → joined ((kappa, p) ∷ es) ((kappa, q) ∷ fs) ≡ joint kappa p q ∷ joined es fs
 unfolding joined joined_from

@@ -13,6 +13,7 @@ pub record HoldsOfBoth (A : List ℕ → Type 0) (P Q : Laurent → Type 0) (j :
   pub first : P j.first
   pub second : Q j.second
 
+-- Each entry has a partition of the one kind and a polynomial of the other.
 abbrev pub AllEntries : (List ℕ → Type 0) → (Laurent → Type 0) → Entries → Type 0
 AllEntries A P es = AllByRecursion (λ t. A t.0 × P t.1) es
 
@@ -36,6 +37,7 @@ module _ (A : List ℕ → Type 0) (P Q : Laurent → Type 0) (first_nought : P 
         | Greater ↦ (record { partition = h.0; first = first_nought; second = h.1 }, all_from e rest a p more fs hs)
       ]
 
+  -- what holds of all entries of both lists holds of all that occurs along the walk
   pub joined-all : (es fs : Entries) → AllEntries A P es → AllEntries A Q fs
       → AllByRecursion (HoldsOfBoth A P Q) (joined es fs)
   unfolding joined

@@ -49,6 +49,7 @@ later_at kappa [] h i d lt = absurd (omega arith)
 later_at kappa (e ∷ es) (h, hs) zero d lt = h
 later_at kappa (e ∷ es) (h, hs) (suc i) d lt = later_at kappa es hs i d (omega arith)
 
+-- the partition at an earlier place is earlier
 pub places_ascend : {X : Type 0} (es : List (List ℕ × X)) → IsAscending es → (i j : ℕ) (d : List ℕ × X) → i < j
     → j < length es → IsEarlier (get_or es i d).0 (get_or es j d).0
 places_ascend [] h i j d lt within = absurd (omega arith)
@@ -69,6 +70,7 @@ vector_of-at ((kappa, p) ∷ es) h (suc i) d lt =
     (ap is_eq (later_at kappa es (later_tail kappa p es h) i d (omega arith)))
     ∙ vector_of-at es h.1 i d (omega arith)
 
+-- the vector is 0 at a partition that no entry has
 pub vector_of-absent : (es : Entries) (lambda : List ℕ) (d : List ℕ × Laurent)
     → ((i : ℕ) → i < length es → is_eq (compare (get_or es i d).0 lambda) ≡ false) → vector_of es lambda ≡ []
 unfolding vector_of

@@ -11,6 +11,7 @@ use Rattle.sp_defs.specs.Within.{PowersWithin, ProductWithin}
 use Rattle.sp_shapes.proofs.Order.{all_mono}
 use Rattle.sp_fock_law.proofs.Vectors.{entries_at, entries-vector_of}
 
+-- the zero vector has no entries
 pub entries-nought : (n : ℕ) → entries n (λ _. []) ≡ []
 entries-nought n = nothing_at (partitions n)
   where
@@ -18,19 +19,23 @@ entries-nought n = nothing_at (partitions n)
     nothing_at [] = refl
     nothing_at (x ∷ xs) = nothing_at xs
 
+-- no entries are a vector
 pub IsVector-nil : (n : ℕ) → IsVector n []
 IsVector-nil n = record { partitions_of = tt; ascending = tt; polynomials = tt }
 
+-- one entry that isn't 0 is a vector
 pub IsVector-single : (n : ℕ) (kappa : List ℕ) (p : Laurent) → IsPartitionOf n kappa → IsLaurent p → p ≢ []
     → IsVector n ((kappa, p) ∷ [])
 IsVector-single n kappa p h laurent ne =
     record { partitions_of = (h, tt); ascending = (tt, tt); polynomials = ((laurent, ne), tt) }
 
+-- a vector that is 0 but at one partition has one entry
 pub entries-single : (n : ℕ) (kappa : List ℕ) (p : Laurent) → IsPartitionOf n kappa → IsLaurent p → p ≢ []
     → entries n (λ lambda. cond (is_eq (compare kappa lambda)) p []) ≡ (kappa, p) ∷ []
 unfolding vector_of
 entries-single n kappa p h laurent ne = entries-vector_of n ((kappa, p) ∷ []) (IsVector-single n kappa p h laurent ne)
 
+-- a basis vector has one entry, which is 1
 pub entries-unit : (kappa : List ℕ) → IsPartition kappa → entries (degree kappa) (unit kappa) ≡ (kappa, one) ∷ []
 unfolding collect add_term
 entries-unit kappa h = entries-single (degree kappa) kappa one (record { partition = h; total = refl }) refl (λ e. cc)

@@ -25,6 +25,7 @@ within_negate d a q laurent h =
     subst (λ p. ProductWithin d p q) (sym (negate_is a laurent))
     (all_map (λ s. AllByRecursion (λ t. unsigned_abs (s.0 +ℤ t.0) ≤ d) q) (λ t. (t.0, neg_ℤ t.1)) a h)
 
+-- a vector with its sizes as totals is a tally, where they are small
 pub IsTally-tally_of : (v : FockVector) → AllByRecursion (λ total. total.1 < 2 ^ 127) (tally_of v).totals
     → IsTally (tally_of v)
 IsTally-tally_of v small = record {
@@ -42,6 +43,7 @@ module _ (t : TallyValue) (tally : IsTally t) (a : Laurent) (w : FockVector) whe
   times_smaller : (q : Laurent) → size (negate a) * size q ≤ size a * size q
   times_smaller q = mul-le-mul_right (size q) (size_negate a)
 
+  -- a tally from which a product was subtracted is one, where its totals are small
   pub IsTally-subtracted : AllByRecursion (λ total. total.1 < 2 ^ 127) (subtracted t a w).totals
       → IsTally (subtracted t a w)
   IsTally-subtracted small = record {
@@ -63,6 +65,7 @@ module _ (t : TallyValue) (tally : IsTally t) (a : Laurent) (w : FockVector) whe
         omega arith;
   }
 
+  -- where no total passes the limit, no size of the difference does
   pub smaller_weight : (limit : ℕ) → subtraction_weight t a w ≤ limit
       → scaled_sum_weight t.vector (negate a) w ≤ limit
   smaller_weight limit h =

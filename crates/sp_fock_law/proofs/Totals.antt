@@ -25,11 +25,13 @@ use Rattle.sp_fock_law.proofs.Places.{vector_of-at}
 
 -- ---- constants
 
+-- the size of a constant is the number
 pub size-constant : (k : ℕ) → size (constant k) ≡ k
 unfolding constant
 size-constant zero = refl
 size-constant (suc k) = size-cons (pos 0) (pos (suc k)) [] ∙ omega (arith, ints)
 
+-- a constant is a polynomial
 pub IsLaurent-constant : (k : ℕ) → IsLaurent (constant k)
 unfolding constant collect
 IsLaurent-constant zero = refl
@@ -41,6 +43,7 @@ unfolding constant
 is_nonzero-constant zero = refl
 is_nonzero-constant (suc k) = lt-ltb 0 (suc k) (omega arith)
 
+-- equal constants are of equal numbers
 pub constant_injective : (k m : ℕ) → constant k ≡ constant m → k ≡ m
 constant_injective k m e = sym (size-constant k) ∙ ap size e ∙ size-constant m
 
@@ -51,6 +54,7 @@ positive_constant (suc k) ne = omega arith
 
 -- ---- lists of totals
 
+-- what the constants have at a partition is the constant of the total there
 pub vector_of-constants : (ts : Totals) (lambda : List ℕ)
     → vector_of (constants ts) lambda ≡ constant (total_of ts lambda)
 unfolding vector_of total_of constant
@@ -89,6 +93,7 @@ constants-totals n total =
 
 -- ---- finite maps of totals
 
+-- the constants of totals are a vector
 pub IsVector-constants : (n : ℕ) (ts : Totals) → IsTotals n ts → IsVector n (constants ts)
 IsVector-constants n ts h = record {
   partitions_of = all_map (λ t. IsPartitionOf n t.0) (λ t. (t.0, constant t.1)) ts h.partitions_of;
@@ -102,6 +107,7 @@ IsVector-constants n ts h = record {
     positive : (k : ℕ) → 0 < k → k ≡ 0 → ⊥
     positive k lt e = omega arith
 
+-- the totals of a function have its value at each partition of the degree
 pub total_of-totals : (n : ℕ) (total : List ℕ → ℕ) (lambda : List ℕ) → IsPartitionOf n lambda
     → total_of (totals n total) lambda ≡ total lambda
 total_of-totals n total lambda h =
@@ -109,6 +115,7 @@ total_of-totals n total lambda h =
     (sym (vector_of-constants (totals n total) lambda) ∙ ap (λ es. vector_of es lambda) (constants-totals n total)
     ∙ vector_of-entries n (λ x. constant (total x)) lambda h)
 
+-- the totals of a function are totals
 pub IsTotals-totals : (n : ℕ) (total : List ℕ → ℕ) → IsTotals n (totals n total)
 IsTotals-totals n total = record {
   partitions_of = map_all (λ t. IsPartitionOf n t.0) (λ t. (t.0, constant t.1)) (totals n total) vector.partitions_of;
@@ -177,6 +184,7 @@ size_positive ((k, c) ∷ p) h =
     let lt : 0 < size ((k, c) ∷ p) = omega (arith, ints, size-cons k c p) in
     lt-ltb 0 (length ((k, c) ∷ p)) some ∙ sym (lt-ltb 0 (size ((k, c) ∷ p)) lt)
 
+-- the sizes of the entries are the totals of the sizes of the vector
 pub sizes-totals : (n : ℕ) (es : Entries) → IsVector n es
     → map (λ t. (t.0, size t.1)) es ≡ totals n (λ lambda. size (vector_of es lambda))
 sizes-totals n es h =
@@ -193,6 +201,7 @@ sizes-totals n es h =
 
 -- ---- a search for a total
 
+-- the total at the partition of a place is that of the place
 pub total_of-at : (n : ℕ) (ts : Totals) → IsTotals n ts → (i : ℕ) (d : List ℕ × ℕ) → i < length ts
     → total_of ts (get_or ts i d).0 ≡ (get_or ts i d).1
 total_of-at n ts h i d lt =
@@ -206,6 +215,7 @@ total_of-at n ts h i d lt =
     place : get_or (constants ts) i (d.0, constant d.1) ≡ ((get_or ts i d).0, constant (get_or ts i d).1)
     place = get_or-map (λ t. (t.0, constant t.1)) ts i d
 
+-- the total is 0 at a partition that no place has
 pub total_of-absent : (ts : Totals) (lambda : List ℕ) (d : List ℕ × ℕ)
     → ((i : ℕ) → i < length ts → is_eq (compare (get_or ts i d).0 lambda) ≡ false) → total_of ts lambda ≡ 0
 unfolding total_of

@@ -46,31 +46,38 @@ use Rattle.sp_fock_law.specs.Joined.{is_nonzero}
 abbrev pub AllLater : {X : Type 0} → List ℕ → List (List ℕ × X) → Type 0
 AllLater kappa es = AllByRecursion (λ t. IsEarlier kappa t.0) es
 
+-- The partitions of the entries ascend strictly.
 abbrev pub IsAscending : {X : Type 0} → List (List ℕ × X) → Type 0
 IsAscending es = Ascending (map (λ t. t.0) es)
 
+-- the entries behind the first are later
 pub later_tail : {X : Type 0} (kappa : List ℕ) (p : X) (es : List (List ℕ × X)) → IsAscending ((kappa, p) ∷ es)
     → AllLater kappa es
 later_tail kappa p es h = map_all (IsEarlier kappa) (λ t. t.0) es h.0
 
+-- what is later than a partition is later than any earlier one
 pub all_later : (mu kappa : List ℕ) (es : Entries) → IsEarlier mu kappa → AllLater kappa es → AllLater mu es
 all_later mu kappa es e h =
     all_mono (λ t. IsEarlier kappa t.0) (λ t. IsEarlier mu t.0) es (λ t l. less_trans mu kappa t.0 e l) h
 
+-- where one partition is the greater, the other is earlier
 pub earlier_than : (x y : List ℕ) → compare x y ≡ Greater → IsEarlier y x
 earlier_than x y o = nat_list_cmp_total.antisymm y x ∙ ap ordering_reverse o
 
 -- ---- looking up
 
+-- the vector has at the first partition what the first entry has
 pub vector_of-head : (kappa : List ℕ) (p : Laurent) (es : Entries) → vector_of ((kappa, p) ∷ es) kappa ≡ p
 unfolding vector_of
 vector_of-head kappa p es = ap (λ o. cond (is_eq o) p (vector_of es kappa)) (equal_self kappa)
 
+-- at any other partition the first entry does not count
 pub vector_of-other : (kappa lambda : List ℕ) (p : Laurent) (es : Entries) → is_eq (compare kappa lambda) ≡ false
     → vector_of ((kappa, p) ∷ es) lambda ≡ vector_of es lambda
 unfolding vector_of
 vector_of-other kappa lambda p es e = ap (λ b. cond b p (vector_of es lambda)) e
 
+-- the vector is 0 at a partition before all entries
 pub vector_of-later : (mu : List ℕ) (es : Entries) → AllLater mu es → vector_of es mu ≡ []
 unfolding vector_of
 vector_of-later mu [] h = refl
@@ -88,6 +95,7 @@ vector_of-all P nought ((kappa, p) ∷ es) (h, hs) lambda =
       | false ↦ vector_of-all P nought es hs lambda
     ]
 
+-- the vector has a polynomial at each partition where the entries do
 pub IsLaurent-vector_of : (es : Entries) → AllByRecursion (λ t. IsLaurent t.1 × (t.1 ≢ [])) es → (lambda : List ℕ)
     → IsLaurent (vector_of es lambda)
 unfolding collect
@@ -97,6 +105,7 @@ IsLaurent-vector_of es h lambda =
 
 -- ---- extensionality
 
+-- the entries behind the first are a vector
 pub IsVector-tail : (n : ℕ) (t : List ℕ × Laurent) (es : Entries) → IsVector n (t ∷ es) → IsVector n es
 IsVector-tail n t es h =
     record { partitions_of = h.partitions_of.1; ascending = h.ascending.1; polynomials = h.polynomials.1 }
@@ -124,6 +133,7 @@ tails_alike n kappa p q es fs he hf e lambda h =
     apart : is_eq (compare kappa lambda) ≡ false → vector_of es lambda ≡ vector_of fs lambda
     apart o = sym (vector_of-other kappa lambda p es o) ∙ e lambda h ∙ vector_of-other kappa lambda q fs o
 
+-- vectors that are alike at each partition of the degree have the same entries
 pub same_entries : (n : ℕ) (es fs : Entries) → IsVector n es → IsVector n fs → AreAlike n es fs → es ≡ fs
 same_entries n [] [] he hf e = refl
 same_entries n [] ((lambda, q) ∷ fs) he hf e =
@@ -161,6 +171,7 @@ same_entries n ((kappa, p) ∷ es) ((lambda, q) ∷ fs) he hf e =
 abbrev pub entries_at : List (List ℕ) → Vector → Entries
 entries_at xs w = filter (λ t. is_nonzero t.1) (map (λ parts. (parts, w parts)) xs)
 
+-- a polynomial that fails the test is 0
 pub nonzero_or_nil : (p : Laurent) → is_nonzero p ≡ false → p ≡ []
 nonzero_or_nil [] e = refl
 nonzero_or_nil (t ∷ p) e = absurd (let z : length (t ∷ p) ≤ 0 = ltb-false 0 (length (t ∷ p)) e in omega arith)
@@ -188,9 +199,11 @@ all_at P xs w h =
     (all_mono (λ x. (w x ≢ []) → P (x, w x)) (λ x. is_nonzero (w x) ≡ true → P (x, w x)) xs
     (λ x f e. f (is_nonzero-ne (w x) e)) h))
 
+-- the entries at ascending partitions ascend
 pub ascending_at : (xs : List (List ℕ)) (w : Vector) → Ascending xs → IsAscending (entries_at xs w)
 ascending_at xs w h = subst Ascending (sym (partitions_at xs w)) (Ascending-filter (λ x. is_nonzero (w x)) xs h)
 
+-- the entries at some partitions have the vector's values at these
 pub vector_of-entries_at : (xs : List (List ℕ)) (w : Vector) (lambda : List ℕ) → Ascending xs → Occurs lambda xs
     → vector_of (entries_at xs w) lambda ≡ w lambda
 vector_of-entries_at [] w lambda h o = absurd o
@@ -213,6 +226,7 @@ vector_of-entries_at (x ∷ xs) w lambda (h, hs) (inr o) =
       | false ↦ vector_of-entries_at xs w lambda hs o
     ]
 
+-- the entries of a vector of polynomials are a vector
 pub IsVector-entries : (n : ℕ) (w : Vector) → ((lambda : List ℕ) → IsLaurent (w lambda)) → IsVector n (entries n w)
 IsVector-entries n w h = record {
   partitions_of =
@@ -224,11 +238,13 @@ IsVector-entries n w h = record {
       (all_every (λ x. (w x ≢ []) → IsLaurent (w x) × (w x ≢ [])) (partitions n) (λ x ne. (h x, ne)));
 }
 
+-- the entries have the vector's value at each partition of the degree
 pub vector_of-entries : (n : ℕ) (w : Vector) (lambda : List ℕ) → IsPartitionOf n lambda
     → vector_of (entries n w) lambda ≡ w lambda
 vector_of-entries n w lambda h =
     vector_of-entries_at (partitions n) w lambda (partitions_ascend n) (each_partition n lambda h.partition h.total)
 
+-- the entries of the vector that entries make are these entries
 pub entries-vector_of : (n : ℕ) (es : Entries) → IsVector n es → entries n (vector_of es) ≡ es
 entries-vector_of n es h =
     same_entries n (entries n (vector_of es)) es
