@@ -1,9 +1,9 @@
 -- A core and a quotient are those of one partition.
-use Rattle.std.proofs.Common.{◌≡◌, ℕ, ◌+◌, ◌*◌, ◌<◌, ◌≤◌, List, [], ◌∷◌, length}
-use Rattle.std.proofs.Common.{sum_by, sym, ◌∙◌, ap, ap₂, arith, slice_index, mul-le-mul_left}
+use Rattle.std.proofs.Common.{◌≡◌, ℕ, ◌+◌, ◌*◌, ◌<◌, ◌≤◌, List, [], length}
+use Rattle.std.proofs.Common.{sum_by, sym, ◌∙◌, ap, ap₂, arith, mul-le-mul_left}
 use Rattle.std.specs.Prelude.{slice_index_or}
 use Rattle.std.specs.List.{AllByRecursion, range_with_len}
-use Rattle.std.proofs.lemmas.List.Sums.{sum_by-cons, get_or-le-sum_by}
+use Rattle.std.proofs.lemmas.List.Sums.{get_or-le-sum_by}
 use Rattle.std.proofs.lemmas.List.FromFn.{fill_by_all, get_or-map-range_with_len, length-map-range_with_len}
 use Rattle.sp_defs.specs.Partition.{degree, IsPartition}
 use Rattle.sp_defs.specs.Abacus.{beta, shown, runner, slid, core, quotient}
@@ -21,7 +21,7 @@ use Rattle.sp_abacus_law.proofs.Weight.{length-slid}
 use Rattle.sp_abacus_law.proofs.Weight.{length-runners, runner-short, core-partition}
 use Rattle.sp_abacus_law.proofs.Members.{same-runners, runner-placed, placed-falls}
 use Rattle.sp_abacus_law.proofs.MoreBeads.{fallen-alike, height_more, rounds, quotient-numbers, core-numbers}
-use Rattle.sp_lists.proofs.Sums.{sum-alike}
+use Rattle.sp_lists.proofs.Sums.{sum-alike, first-le-sum}
 
 -- ---- core and quotient determine the partition
 
@@ -140,10 +140,6 @@ module _ (e : ℕ) (he : 1 ≤ e) where
           height_more e i (rounds e kappa) (sum_by length q) kappa hi enough,
         )
 
-    first_small : (parts : List ℕ) → slice_index parts 0 ≤ degree parts
-    first_small [] = omega arith
-    first_small (p ∷ parts) = omega (arith, sum_by-cons (λ x. x) p parts)
-
     -- The places of the beads lie below the nodes of the quotient and all beads together.
     pub places_low : (i : ℕ) → i < e → AllByRecursion (λ p. p < sum_by degree q + total) (places_for e kappa q i)
     places_low i hi =
@@ -151,7 +147,7 @@ module _ (e : ℕ) (he : 1 ≤ e) where
         (places_for e kappa q i)
         (λ c lt. omega (arith, lt, entry_small i hi, runner-short e mine i, length-numbers kappa total))
         (numbers-below (entry i) (length (runner e mine i)) (degree (entry i)) (entry_partition i hi)
-        (first_small (entry i)))
+        (first-le-sum (entry i)))
 
     set_runner : (i : ℕ) → i < e → runner e set i ≡ places_for e kappa q i
     set_runner i hi =

@@ -1,9 +1,9 @@
 -- Numbers that descend strictly: how many there are below a bound, and when they leave no gap.
 use Rattle.std.proofs.Common.{◌≡◌, ℕ, zero, suc, ◌<◌, ◌≤◌, List, [], ◌∷◌, Bool, true, false, cond, filter}
-use Rattle.std.proofs.Common.{length, refl, ap, ap₂, arith, subst}
+use Rattle.std.proofs.Common.{length, slice_index, refl, ap, ap₂, arith, subst}
 use Rattle.std.specs.List.{AllByRecursion}
 use Rattle.sp_lists.proofs.Elements.{all_filter}
-use Rattle.sp_lists.proofs.Places.{all_weaken}
+use Rattle.sp_lists.proofs.Places.{all_weaken, all_at}
 use Rattle.sp_abacus_law.specs.Beads.{down, Falls}
 
 -- There are n numbers below n,
@@ -20,6 +20,13 @@ down-below (suc n) m h = (omega arith, down-below n m (omega arith))
 pub down-falls : (n : ℕ) → Falls (down n)
 down-falls zero = tt
 down-falls (suc n) = (down-below n n (omega arith), down-falls n)
+
+-- An earlier number is greater.
+pub falls_between : (xs : List ℕ) (a b : ℕ) → Falls xs → a < b → b < length xs → slice_index xs b < slice_index xs a
+falls_between [] a b f lt within = absurd (omega arith)
+falls_between (x ∷ xs) a zero f lt within = absurd (omega arith)
+falls_between (x ∷ xs) zero (suc b) (low, f) lt within = all_at (λ c. c < x) xs b 0 low (omega arith)
+falls_between (x ∷ xs) (suc a) (suc b) (low, f) lt within = falls_between xs a b f (omega arith) (omega arith)
 
 -- There are at most n of them below n.
 pub falls-few : (bs : List ℕ) (n : ℕ) → Falls bs → AllByRecursion (λ c. c < n) bs → length bs ≤ n
