@@ -52,6 +52,7 @@ unfolding listed ladder_vector chain_sum chains_to chain_exponent steps ladders 
     partitions partitions_within nodes_from sum_over plus collect add_term int_sum
 ladder_vector_5 = refl
 
+-- The ladder vector of (7) has 3v at (5,1,1).
 pub ladder_vector_7 : ladder_vector 2 (7 ∷ []) (5 ∷ 1 ∷ 1 ∷ []) ≡ (pos 1, pos 3) ∷ []
 unfolding ladder_vector chain_sum chains_to chain_exponent steps ladders on_ladder sources is_move exponent
     partitions partitions_within nodes_from sum_over plus collect add_term int_sum

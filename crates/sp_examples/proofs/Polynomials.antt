@@ -29,10 +29,12 @@ cancelled = refl
 pub size_of : size ((pos 0, pos 1) ∷ (pos 2, negsuc 2) ∷ []) ≡ 4
 size_of = refl
 
+-- 1 - 3v^2 is -2 at v = 1.
 pub value_of : value_at_one ((pos 0, pos 1) ∷ (pos 2, negsuc 2) ∷ []) ≡ negsuc 1
 unfolding int_sum
 value_of = refl
 
+-- Its derivative is -6 there.
 pub slope_of : slope_at_one ((pos 0, pos 1) ∷ (pos 2, negsuc 2) ∷ []) ≡ negsuc 5
 unfolding int_sum
 slope_of = refl

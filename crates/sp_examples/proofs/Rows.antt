@@ -39,6 +39,7 @@ unfolding weight ladder_weight partial_ladder_vector shares shares_over
     partitions partitions_within nodes_from sum_over plus collect add_term int_sum
 weight_5 = refl
 
+-- Under the limit 2 the row of (5) is too large,
 pub too_large_5 : outcome 2 2 (5 ∷ []) ≡ TooLarge
 unfolding outcome needed_among vector_of weight ladder_weight partial_ladder_vector shares shares_over
     regular_row factors combination lift negate times products regulars
@@ -46,6 +47,7 @@ unfolding outcome needed_among vector_of weight ladder_weight partial_ladder_vec
     partitions partitions_within nodes_from sum_over plus collect add_term int_sum
 too_large_5 = refl
 
+-- and under the limit 3 it is a row.
 pub within_5 : outcome 2 3 (5 ∷ []) ≡ Row
 unfolding outcome needed_among vector_of weight ladder_weight partial_ladder_vector shares shares_over
     regular_row factors combination lift negate times products regulars
