@@ -1,9 +1,6 @@
 -- A partition is what its core and its quotient are combined to, and no other partition has both.
-use Rattle.std.proofs.Common.{◌≡◌, ℕ, ◌+◌, ◌*◌, ◌≤◌, Bool, true, false, List, length, sum_by, refl, sym, ◌∙◌, ap}
-use Rattle.std.proofs.Common.{ap₂, not}
+use Rattle.std.proofs.Common.{◌≡◌, ℕ, ◌+◌, ◌*◌, ◌≤◌, List, length, sum_by, sym, ◌∙◌, ap, ap₂}
 use Rattle.std.specs.List.{AllByRecursion}
-use Rattle.std.specs.Prelude.{nat_eq}
-use Rattle.std.specs.Cmp.Lexicographic.{pointwise, same_text, other_text}
 use Rattle.sp_defs.specs.Partition.{degree, IsPartition}
 use Rattle.sp_defs.specs.Abacus.{core, quotient, beta, runner, shown}
 use Rattle.std.proofs.lemmas.List.FromFn.{length-map-range_with_len}
@@ -36,21 +33,3 @@ pub has_both : (e : ℕ) → 1 ≤ e → (kappa : List ℕ) (q : List (List ℕ)
     core e (combined e kappa q) ≡ kappa × quotient e (combined e kappa q) ≡ q
 has_both e he kappa q pk count pq own =
     (combined_core e he kappa q pk count pq ∙ own, combined_quotient e he kappa q pk count pq)
-
--- ---- what a test of two partitions has told
-
--- A test that tells two lists apart,
-pub told_other : (xs ys : List ℕ) (b : Bool) → b ≡ not (pointwise nat_eq xs ys) → b ≡ true → xs ≡ ys → ⊥
-told_other xs ys b is told = other_text xs ys (of_not (pointwise nat_eq xs ys) (sym is ∙ told))
-  where
-    of_not : (p : Bool) → not p ≡ true → false ≡ p
-    of_not true h = h
-    of_not false h = refl
-
--- or finds them equal.
-pub told_same : (xs ys : List ℕ) (b : Bool) → b ≡ not (pointwise nat_eq xs ys) → b ≡ false → xs ≡ ys
-told_same xs ys b is told = same_text xs ys (of_not (pointwise nat_eq xs ys) (sym is ∙ told))
-  where
-    of_not : (p : Bool) → not p ≡ false → true ≡ p
-    of_not true h = refl
-    of_not false h = h

@@ -1,12 +1,12 @@
 -- The loops over beads: what they have found so far.
-use Rattle.std.proofs.Common.{◌≡◌, ℕ, zero, suc, ◌+◌, ◌-◌, ◌/◌, ◌%◌, ◌<◌, ◌≤◌, Bool, true, false, cond, nat_eq}
+use Rattle.std.proofs.Common.{◌≡◌, ℕ, suc, ◌+◌, ◌-◌, ◌/◌, ◌%◌, ◌<◌, ◌≤◌, Bool, true, false, cond, nat_eq}
 use Rattle.std.proofs.Common.{nat_lt, List, [], ◌∷◌, ◌++◌, map, filter, length, slice_index, slice_set}
 use Rattle.std.proofs.Common.{replicate, refl, sym, ◌∙◌, ap, ap₂, inl, inr, arith, get_or-set_same}
 use Rattle.std.proofs.Common.{get_or-set_other, length-set, append-nil, length-append}
 use Rattle.std.proofs.Common.{◌≢◌}
 use Rattle.std.proofs.lemmas.Bool.{cases_eq}
 use Rattle.std.proofs.lemmas.Bool.Decides.{nat_tests}
-use Rattle.std.proofs.lemmas.List.{map-append}
+use Rattle.std.proofs.lemmas.List.{map-append, get_or-replicate}
 use Rattle.std.proofs.lemmas.List.Elements.{filter-append}
 use Rattle.std.specs.List.{range_with_len}
 use Rattle.std.proofs.lemmas.List.FromFn.{map-range_with_len_more}
@@ -46,12 +46,7 @@ pub record Counted (e : ℕ) (counts seen : List ℕ) : Type 0 where
 
 -- No beads have been counted.
 pub counted_none : (e : ℕ) → Counted e (replicate 64 0) []
-counted_none e = record { room = refl; is = λ i below. zeros 64 i }
-  where
-    zeros : (n i : ℕ) → slice_index (replicate n 0) i ≡ 0
-    zeros zero i = refl
-    zeros (suc n) zero = refl
-    zeros (suc n) (suc i) = zeros n i
+counted_none e = record { room = refl; is = λ i below. get_or-replicate 64 i 0 0 below }
 
 one_more : (e b : ℕ) (seen : List ℕ) (i : ℕ) →
     length (runner e (seen ++ b ∷ []) i) ≡ length (runner e seen i) + cond (nat_eq (b % e) i) 1 0

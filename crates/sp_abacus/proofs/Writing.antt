@@ -8,7 +8,7 @@ use Rattle.std.proofs.lemmas.List.FromFn.{map-range_with_len_more}
 use Rattle.sp_defs.specs.Partition.{degree}
 use Rattle.sp_defs.specs.Abacus.{beta, shown}
 use Rattle.sp_lists.proofs.Elements.{le_or_lt}
-use Rattle.sp_lists.proofs.FlatMaps.{flat_map-range_more}
+use Rattle.sp_lists.proofs.FlatMaps.{appended_more}
 use Rattle.sp_lists.proofs.Places.{all_weaken}
 use Rattle.sp_partition.specs.Held.{IsHeld}
 use Rattle.sp_partition.proofs.Kept.{kept_on, kept_append}
@@ -65,11 +65,7 @@ pub lines_more : (old now more piece : List ℕ) (line : ℕ → List ℕ) (plac
     piece ≡ line place → now ≡ old ++ flat_map line (range_with_len 0 place) →
     more ≡ old ++ flat_map line (range_with_len 0 (place + 1))
 lines_more old now more piece line place appended is h =
-    appended
-    ∙ ap (λ xs. xs ++ piece) h
-    ∙ append_assoc old (flat_map line (range_with_len 0 place)) piece
-    ∙ ap (λ xs. old ++ (flat_map line (range_with_len 0 place) ++ xs)) is
-    ∙ ap (λ xs. old ++ xs) (sym (flat_map-range_more line 0 place place (omega arith)))
+    appended ∙ ap (λ xs. now ++ xs) is ∙ appended_more line old now 0 place place (omega arith) h
 
 -- One character more in a line.
 pub characters_more : (old now more : List ℕ) (x : ℕ) (at : ℕ → ℕ) (runner : ℕ) → more ≡ now ++ x ∷ [] →

@@ -1,6 +1,6 @@
 // The beads: their numbers, those of one runner, and those slid down.
 ghost use Rattle.std.specs.Prelude.{◌≡◌, ℕ, ◌+◌, ◌<◌, ◌≤◌, length, slice_index};
-ghost use Rattle.sp_defs.specs.Partition.{part as part_of, degree as degree_of};
+ghost use Rattle.sp_defs.specs.Partition.{degree as degree_of};
 ghost use Rattle.sp_defs.specs.Abacus.{beads as beads_of, beta as beta_of, runner as runner_of, slid as slid_of};
 ghost use Rattle.sp_defs.specs.Abacus.{shown as shown_of};
 ghost use Rattle.sp_abacus_law.specs.Beads.{numbers as numbers_of, Falls};
@@ -30,7 +30,7 @@ pub(crate) fn numbers(p: &Partition, count: u8) -> ArrayVec<u8, 64>
 {
     let mut numbers = ArrayVec::new();
     for row in 1..count + 1 {
-        numbers.push(row_length(p, row) + count - row);
+        numbers.push(p.part(row) + count - row);
     }
     numbers
 }
@@ -43,26 +43,7 @@ pub(crate) fn bead_count(e: u8, p: &Partition) -> u8
     ensures small { result ≤ 64 }
     ensures held { IsHeld p.now }
 {
-    let rows = row_count(p);
-    (rows + (e - 1)) / e * e
-}
-
-#[tactic(auto, using(sp_partition::proofs::Holding::few_parts))]
-pub(crate) fn row_count(p: &Partition) -> u8
-    ensures value { result ≡ length p.now }
-    ensures small { result ≤ 32 }
-    ensures held { IsHeld p.now }
-{
-    p.parts().len() as u8
-}
-
-// The length of this row, counted from 1, which is 0 below the last.
-fn row_length(p: &Partition, row: u8) -> u8
-    requires { 1 ≤ row }
-    ensures value { result ≡ part_of p.now row }
-    ensures small { result ≤ 32 }
-{
-    p.parts().get(row as usize - 1).copied().unwrap_or(0)
+    (p.row_count() + (e - 1)) / e * e
 }
 
 // The places of the beads on this runner, from the greatest to the least.

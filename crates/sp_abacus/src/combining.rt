@@ -9,7 +9,7 @@ ghost use Rattle.sp_abacus_law.specs.Beads.{numbers as numbers_of, Falls};
 ghost use Rattle.sp_abacus_law.specs.Combined.{combined_beads, member};
 ghost use Rattle.sp_abacus.specs.Fit.{Fit};
 
-use crate::beads::{NUMBERS_END, bead_count, heights, numbers, row_count};
+use crate::beads::{NUMBERS_END, bead_count, heights, numbers};
 use crate::parts::{core, shown};
 use arrayvec::ArrayVec;
 use sp_partition::{DEGREE_LIMIT, Partition};
@@ -73,7 +73,7 @@ fn total_rows(partitions: &[Partition]) -> u32
 {
     let mut total = 0;
     for partition in partitions {
-        total += row_count(partition) as u32;
+        total += partition.row_count() as u32;
     }
     total
 }

@@ -4,7 +4,7 @@ ghost use Rattle.sp_abacus_law.specs.Beads.{Falls};
 ghost use Rattle.sp_abacus.specs.Text.{character as character_of, place_line, places as places_of};
 ghost use Rattle.sp_abacus.specs.Text.{abacus_text as abacus_text_of};
 
-use crate::beads::{beta, row_count};
+use crate::beads::beta;
 use sp_partition::Partition;
 use std::alloc::{AllocError, Global};
 
@@ -36,7 +36,7 @@ fn put_places(out: &mut Vec<u8>, e: u8, p: &Partition) -> Result<(), AllocError>
     ensures text { OnOk result (out.new.items ≡ out.old.items ++ abacus_text_of e p.now) }
     ensures kept { OnErr result (take (length out.old.items) out.new.items ≡ out.old.items) }
 {
-    if row_count(p) == 0 {
+    if p.row_count() == 0 {
         return out.extend_from_slice(b"-\n");
     }
     let numbers = beta(e, p);

@@ -5,8 +5,8 @@ use Rattle.sp_abacus.proofs.beads.numbers.Goals as goal
 pub loop-row-preserved : goal.loop-row-preserved
 loop-row-preserved c =
     record {
-      is = numbers_more c.args.p.now c.args.count c.loop-row.row c.row_length.result
-          c.loop-row.numbers.items c.push.new.self.items (omega arith) c.row_length.ensures.value
+      is = numbers_more c.args.p.now c.args.count c.loop-row.row c.part.result
+          c.loop-row.numbers.items c.push.new.self.items (omega arith) c.part.ensures.value
           c.loop-row.invariant.is c.push.ensures.items;
       len = omega arith;
     }

@@ -1,8 +1,8 @@
 use Rattle.std.proofs.Common.{◌+◌, ◌*◌, Ok, sym, ◌∙◌, ap, ap₂, arith}
 use Rattle.sp_defs.specs.Abacus.{core, quotient, shown}
 use Rattle.sp_abacus.proofs.Taking.{all_partitions}
-use Rattle.sp_abacus.proofs.Together.{its_own, combined_back, degree_back, count_back, has_both, told_other}
-use Rattle.sp_abacus.proofs.Together.{told_same}
+use Rattle.sp_lists.proofs.Comparing.{told_other, told_same}
+use Rattle.sp_abacus.proofs.Together.{its_own, combined_back, degree_back, count_back, has_both}
 use Rattle.sp_abacus.proofs.combining.combine.Goals as goal
 
 pub returns-then-ne-clause-given_back : goal.returns-then-ne-clause-given_back
