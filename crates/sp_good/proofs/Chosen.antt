@@ -24,6 +24,7 @@ last-mapped (x ∷ y ∷ xs) =
     less n = omega arith
 
 module _ (e : ℕ) (he : 2 ≤ e) (i : ℕ) (parts : List ℕ) (pp : IsPartition parts) where
+  -- The good node is the removable node of its row.
   pub good_removable : (found : Option Place) → option_map pair found ≡ good e i parts →
       IfSome found (λ x. is_removable parts (x.row, part parts x.row) ≡ true)
   good_removable None is = tt
@@ -31,6 +32,7 @@ module _ (e : ℕ) (he : 2 ≤ e) (i : ℕ) (parts : List ℕ) (pp : IsPartition
       let fact = good_fact e he i parts pp (pair x) (sym is) in
       ap (λ c. is_removable parts (x.row, c)) (sym fact.2) ∙ fact.0
 
+  -- Without it an e-regular partition is e-regular.
   pub good_regular : (found : Option Place) → option_map pair found ≡ good e i parts → is_regular e parts ≡ true →
       IfSome found (λ x. is_regular e (remove_node parts (pair x)) ≡ true)
   good_regular None is reg = tt
@@ -38,6 +40,7 @@ module _ (e : ℕ) (he : 2 ≤ e) (i : ℕ) (parts : List ℕ) (pp : IsPartition
       ((move_law e parts (record { e_least = he; partition = pp; regular = reg })).good_keeps i (pair x)
       (sym is)).regular
 
+  -- The cogood node is the addable node of its row.
   pub cogood_addable : (found : Option Place) → option_map pair found ≡ cogood e i parts →
       IfSome found (λ x. is_addable parts (x.row, part parts x.row + 1) ≡ true)
   cogood_addable None is = tt
@@ -45,6 +48,7 @@ module _ (e : ℕ) (he : 2 ≤ e) (i : ℕ) (parts : List ℕ) (pp : IsPartition
       let fact = cogood_fact e he i parts pp (pair x) (sym is) in
       ap (λ c. is_addable parts (x.row, c)) (sym fact.2) ∙ fact.0
 
+  -- With it an e-regular partition is e-regular.
   pub cogood_regular : (found : Option Place) → option_map pair found ≡ cogood e i parts →
       is_regular e parts ≡ true → IfSome found (λ x. is_regular e (add_node parts (pair x)) ≡ true)
   cogood_regular None is reg = tt

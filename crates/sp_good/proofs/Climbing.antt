@@ -119,6 +119,7 @@ module _ (e : ℕ) (ups : List ℕ) where
           sym (take-append-drop (s.step + 1) (take k ups))
           ∙ ap (λ xs. xs ++ drop (s.step + 1) (take k ups)) (take-take (s.step + 1) k ups (omega arith))
 
+  -- A way that stops reaches nothing.
   pub stops_none : (s : NoPath) → Stops e ups s → climb e ups [] ≡ None
   stops_none s h =
       ap (λ xs. climb e xs []) (sym (take_all (length ups) ups (omega arith))) ∙ stops_later s (length ups) h h.more
@@ -126,6 +127,7 @@ module _ (e : ℕ) (ups : List ℕ) where
   not_before : (s t : NoPath) → Stops e ups s → Stops e ups t → s.step < t.step → ⊥
   not_before s t h k lt = let none = stops_later s t.step h lt in let some = k.reached in cc
 
+  -- A way stops at one place at most.
   pub stops_same : (s t : NoPath) → Stops e ups s → Stops e ups t → s ≡ t
   stops_same s t h k = settle (le_or_lt s.step t.step) (le_or_lt t.step s.step)
     where
@@ -155,11 +157,13 @@ module _ (e : ℕ) (ups : List ℕ) where
 module _ (e : ℕ) (ups : List ℕ) where
   -- where the way stops here
   module _ (s : NoPath) (h : Stops e ups s) where
+    -- No image is answered, and there is none,
     pub stopped_image : (image : List ℕ) →
         ((◌≡◌ {A = Result (List ℕ) NoPath} (Err s) (Ok image)) → climb e ups [] ≡ Some image) ×
         (climb e ups [] ≡ Some image → ◌≡◌ {A = Result (List ℕ) NoPath} (Err s) (Ok image))
     stopped_image image = ((λ no. cc), λ is. let none = stops_none e ups s h in cc)
 
+    -- and the stop that is answered is the only one.
     pub stopped_stop : (stop : NoPath) →
         ((◌≡◌ {A = Result (List ℕ) NoPath} (Err s) (Err stop)) → Stops e ups stop) ×
         (Stops e ups stop → ◌≡◌ {A = Result (List ℕ) NoPath} (Err s) (Err stop))
@@ -168,11 +172,13 @@ module _ (e : ℕ) (ups : List ℕ) where
 
   -- where it comes to its end
   module _ (at : List ℕ) (h : climb e ups [] ≡ Some at) where
+    -- No stop is answered, and there is none,
     pub ended_stop : (stop : NoPath) →
         ((◌≡◌ {A = Result (List ℕ) NoPath} (Ok at) (Err stop)) → Stops e ups stop) ×
         (Stops e ups stop → ◌≡◌ {A = Result (List ℕ) NoPath} (Ok at) (Err stop))
     ended_stop stop = ((λ no. absurd (cc)), λ k. let none = stops_none e ups stop k in absurd (cc))
 
+    -- and the image that is answered is the only one.
     pub ended_image : (image : List ℕ) →
         ((◌≡◌ {A = Result (List ℕ) NoPath} (Ok at) (Ok image)) → climb e ups [] ≡ Some image) ×
         (climb e ups [] ≡ Some image → ◌≡◌ {A = Result (List ℕ) NoPath} (Ok at) (Ok image))
@@ -226,12 +232,15 @@ module _ (e : ℕ) (ups rest at above : List ℕ) (step r : ℕ) (h : Climbed e 
   next : Next ups step ((e - r) % e)
   next = next_of ups step ((e - r) % e) (map (λ i. (e - i) % e) (reverse above)) next_is
 
+  -- The next residue is below e,
   pub climbed_below : r < e
   climbed_below = (all_right (λ i. i < e) above (r ∷ []) (subst (AllByRecursion (λ i. i < e)) last h.below)).0
 
+  -- and fewer than 32 steps are behind.
   pub climbed_room : step < 32
   climbed_room = omega (arith, next.there, h.few)
 
+  -- With the cogood node of the next residue one step more is climbed.
   pub climbed_more : (at' : List ℕ) (row column : ℕ) → cogood e ((e - r) % e) at ≡ Some (row, column) →
       is_addable at (row, part at row + 1) ≡ true → at' ≡ grow (row - 1) at → IsHeld at' →
       Climbed e ups above at' (step + 1)
@@ -247,6 +256,7 @@ module _ (e : ℕ) (ups rest at above : List ℕ) (step r : ℕ) (h : Climbed e 
     below = all_left (λ i. i < e) above (r ∷ []) (subst (AllByRecursion (λ i. i < e)) last h.below);
   }
 
+  -- Without one the way stops here.
   pub climbed_stops : (step' : ℕ) → step' ≡ step → cogood e ((e - r) % e) at ≡ None →
       Stops e ups (record { step = step'; residue = (e - r) % e; at = at })
   climbed_stops step' is none = record {

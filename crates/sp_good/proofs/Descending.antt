@@ -114,9 +114,11 @@ descended_start e mu he held reg = record {
 module _ (e : ℕ) (mu at residues : List ℕ) (h : Descended e mu at residues) where
   module _ (i row column : ℕ) (some : least_good e 0 e at ≡ Some (i, (row, column)))
       (removes : is_removable at (row, part at row) ≡ true) where
+    -- Without the least good node the degree is 1 less,
     pub one_less : degree (shrink (row - 1) at) + 1 ≡ degree at
     one_less = degree-shrink (row - 1) at h.label.partition (removable_corner at row removes)
 
+    -- and one step more of the path is made.
     pub descended_more : (at' residues' : List ℕ) → at' ≡ shrink (row - 1) at → residues' ≡ residues ++ (i ∷ []) →
         i < e → IsHeld at' → is_regular e (shrink (row - 1) at) ≡ true → Descended e mu at' residues'
     descended_more at' residues' is more lt held reg = record {
@@ -144,8 +146,10 @@ module _ (e : ℕ) (mu at residues : List ℕ) (h : Descended e mu at residues) 
     }
 
   module _ (none : least_good e 0 e at ≡ None) where
+    -- Without a good node the residues are the whole path,
     pub descended_all : residues ≡ path e mu
     descended_all = sym (append-nil residues) ∙ ap (λ rs. residues ++ rs) (sym (path-end (degree at) e at none)) ∙ h.is
 
+    -- as many as the partition has nodes.
     pub descended_whole : length residues ≡ degree mu
     descended_whole = omega (arith, h.total, empty_at_end e at h.label none)

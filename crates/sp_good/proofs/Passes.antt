@@ -18,6 +18,7 @@ use Rattle.sp_good.proofs.Pairs.{addable-left}
 abbrev pub lower : List Mark → List Node
 lower marks = removables (reduced (map mark_of marks))
 
+-- The A left.
 abbrev pub upper : List Mark → List Node
 upper marks = addables (reduced (map mark_of marks))
 
@@ -94,6 +95,7 @@ descends_start marks = record { is = refl; few = omega arith; few_unpaired = ome
 
 module _ (marks rest below : List Mark) (m : Mark) (found : List Place) (unpaired seen : ℕ)
     (h : Descends marks rest found unpaired seen) (here : rest ≡ m ∷ below) where
+  -- An A waits for an R below it.
   pub descends_addable : m.corner ≡ AtAddable → Descends marks below found (unpaired + 1) (seen + 1)
   descends_addable at = record {
     is =
@@ -108,6 +110,7 @@ module _ (marks rest below : List Mark) (m : Mark) (found : List Place) (unpaire
       turned : (u : ℕ) → u + 1 ≡ 1 + u
       turned u = omega arith
 
+  -- An R goes out with the A that waits,
   pub descends_paired : m.corner ≡ AtRemovable → 0 < unpaired → Descends marks below found (unpaired - 1) (seen + 1)
   descends_paired at some = record {
     is =
@@ -119,6 +122,7 @@ module _ (marks rest below : List Mark) (m : Mark) (found : List Place) (unpaire
     few_unpaired = omega (arith, h.few_unpaired);
   }
 
+  -- and is left where none waits.
   pub descends_left : (more : List Place) → more ≡ found ++ (m.node ∷ []) → m.corner ≡ AtRemovable → unpaired ≡ 0 →
       Descends marks below more unpaired (seen + 1)
   descends_left more appended at none = record {
@@ -155,10 +159,12 @@ module _ (marks rest above : List Mark) (m : Mark) (highest : Option Place) (unp
   joined_on : above ++ (m ∷ h.seen) ≡ marks
   joined_on = sym (append_assoc above (m ∷ []) h.seen) ∙ ap (λ xs. xs ++ h.seen) (sym here) ∙ h.whole
 
+  -- Fewer R are left below than there are marks.
   pub unpaired_below : unpaired < length marks
   unpaired_below =
       omega (arith, h.few, ap length joined_on, length-append above (m ∷ h.seen))
 
+  -- An R is left, as far as the marks seen tell.
   pub ascends_removable : m.corner ≡ AtRemovable → Ascends marks above highest (unpaired + 1)
   ascends_removable at = record {
     seen = m ∷ h.seen;
@@ -168,6 +174,7 @@ module _ (marks rest above : List Mark) (m : Mark) (highest : Option Place) (unp
     is = h.is ∙ ap first (sym (upper-removable m h.seen at));
   }
 
+  -- An A goes out with an R below it,
   pub ascends_paired : m.corner ≡ AtAddable → 0 < unpaired → Ascends marks above highest (unpaired - 1)
   ascends_paired at some = record {
     seen = m ∷ h.seen;
@@ -177,6 +184,7 @@ module _ (marks rest above : List Mark) (m : Mark) (highest : Option Place) (unp
     is = h.is ∙ ap first (sym (upper-paired m h.seen at (omega (arith, h.counted))));
   }
 
+  -- and is left where there is none: it is the highest so far.
   pub ascends_left : m.corner ≡ AtAddable → unpaired ≡ 0 → Ascends marks above (Some m.node) unpaired
   ascends_left at none = record {
     seen = m ∷ h.seen;

@@ -23,6 +23,7 @@ takes-joined (Addable, x) [] = done ((Addable, x) ∷ [])
 takes-joined (Addable, x) ((Removable, y) ∷ marks) = pair [] marks marks x y (done marks)
 takes-joined (Addable, x) ((Addable, y) ∷ marks) = done ((Addable, x) ∷ (Addable, y) ∷ marks)
 
+-- The reduced marks are reached by taking out pairs.
 pub reached : IsReached
 unfolding reduced
 reached [] = done []
@@ -40,6 +41,7 @@ no_pair : (below : List Mark) (x y : Node) → Parted ((Addable, x) ∷ (Removab
 unfolding removables
 no_pair below x y h = let no : y ∷ removables below ≡ [] = h.0 in cc
 
+-- They have no pair left.
 pub final : IsFinal
 final marks above below x y is =
     no_pair below x y (parted-below above ((Addable, x) ∷ (Removable, y) ∷ below)
@@ -70,5 +72,6 @@ stays (m ∷ marks) h =
     alone (Addable, x) ((Removable, y) ∷ marks) h = absurd (h [] marks x y refl)
     alone (Addable, x) ((Addable, y) ∷ marks) h = refl
 
+-- No other list without a pair is reached.
 pub only : IsOnlyEnd
 only marks rest h left = sym (stays rest left) ∙ sym (same_reduced marks rest h)
