@@ -20,8 +20,7 @@ use Rattle.sp_partition.specs.OrderLaws.{lists_equal}
 use Rattle.sp_fock_law.specs.Grid.{GridValue, IsGrid, cell_of}
 use Rattle.sp_fock_law.proofs.Vectors.{all_at as entries_keep}
 use Rattle.sp_outcome_law.proofs.Exceeding.{greatest_past}
-use Rattle.sp_outcome_law.proofs.Listed.{any-map}
-use Rattle.sp_lists.proofs.Maps.{map-alike}
+use Rattle.sp_lists.proofs.Maps.{any-map, map-alike}
 use Rattle.sp_module_defs.specs.Jantzen.{jantzen_sum}
 use Rattle.sp_module_defs.specs.Agreement.{Cells, agrees, agreement_weight, jantzen_entries}
 use Rattle.sp_module_defs.specs.Agreement.{jantzen_value, jantzen_size}

@@ -3,8 +3,6 @@
 use Rattle.std.proofs.Common.{◌≡◌, ◌≢◌, ℕ, List, [], ◌∷◌, refl, sym, ◌∙◌, ap, subst}
 use Rattle.std.proofs.Common.{◌⊎◌, inl, inr, Ordering, Less, Equal, Greater}
 use Rattle.std.specs.List.{AllByRecursion}
-use Rattle.std.specs.Ordering.{ordering_reverse}
-use Rattle.std.proofs.lemmas.Cmp.{nat_list_cmp_total}
 use Rattle.sp_defs.specs.Partition.{degree, IsPartition, Dominates, compare}
 use Rattle.sp_defs.specs.Laurent.{Laurent, times}
 use Rattle.sp_defs.specs.Ladder.{ladder_vector}
@@ -13,7 +11,7 @@ use Rattle.sp_defs.specs.Statements.{IsLabel}
 use Rattle.sp_lists.proofs.Elements.{all_append}
 use Rattle.sp_algebra.proofs.Laws.{times_nought}
 use Rattle.sp_algebra.proofs.Sums.{nonzero_term}
-use Rattle.sp_shapes.proofs.Order.{less_trans, same_lists}
+use Rattle.sp_shapes.proofs.Order.{earlier_than, less_trans, same_lists}
 use Rattle.sp_triangle.proofs.Triangle.{keys-factors}
 use Rattle.sp_triangle.proofs.Shares.{from_keys}
 use Rattle.sp_ladder_law.proofs.LadderLaw.{ladder_law}
@@ -31,10 +29,8 @@ dominated_earlier mu nu lambda pl d k other = by_order (compare nu lambda) refl 
     by_order Less e k = absurd (not_lower nu lambda pl d.sums e)
     by_order Equal e (inl lt) = subst (λ x. compare x mu ≡ Less) (same_lists nu lambda e) lt
     by_order Equal e (inr s) = absurd (other (sym (same_lists nu lambda e) ∙ s))
-    by_order Greater e (inl lt) =
-        less_trans lambda nu mu (nat_list_cmp_total.antisymm lambda nu ∙ ap ordering_reverse e) lt
-    by_order Greater e (inr s) =
-        subst (λ x. compare lambda x ≡ Less) s (nat_list_cmp_total.antisymm lambda nu ∙ ap ordering_reverse e)
+    by_order Greater e (inl lt) = less_trans lambda nu mu (earlier_than nu lambda e) lt
+    by_order Greater e (inr s) = subst (λ x. compare lambda x ≡ Less) s (earlier_than nu lambda e)
 
 -- ---- the partitions in the row
 

@@ -5,9 +5,6 @@ use Rattle.std.proofs.Common.{◌≤◌, ◌<◌, length}
 use Rattle.std.proofs.Common.{nat_lt, ◌≢◌}
 use Rattle.std.proofs.Common.{sum_by}
 use Rattle.std.proofs.lemmas.List.Sums.{sum_by-cons}
-pub use Rattle.sp_lists.proofs.Elements.{same_tests}
-pub use Rattle.sp_lists.proofs.Occurrence.{contains}
-pub use Rattle.sp_lists.proofs.Maps.{any-map}
 
 -- what is kept from a place on is the element there, if it is kept, and what is kept from the next place on
 pub filter-drop : {X : Type 0} (p : X → Bool) (xs : List X) (t : ℕ) (d : X) → p d ≡ false →
