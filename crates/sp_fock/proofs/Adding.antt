@@ -25,6 +25,7 @@ nought_laurent : IsLaurent []
 unfolding collect
 nought_laurent = refl
 
+-- where no size passes the limit, each sum along the walk can be made
 pub can_add : (limit : ℕ) (a : Laurent) (es fs : Entries) → ArePairs es → ArePairs fs
     → AllByRecursion (λ t. ProductWithin power_limit a t.1) fs
     → AllByRecursion (λ j. size j.first + size a * size j.second ≤ limit) (joined es fs)
@@ -68,6 +69,7 @@ sum_entries n a es fs he hf = combined-entries n (added a) (added_nought a) es f
 
 -- ---- by what is kept of both vectors
 
+-- a walk fits where an equal one, with an equal size of the factor, does
 pub fit_moved : (limit s t : ℕ) (js ks : List Joint) → s ≡ t → js ≡ ks → AllFit s limit js → AllFit t limit ks
 fit_moved limit s t js ks e f h = subst (AllFit t limit) f (subst (λ n. AllFit n limit js) e h)
 
@@ -75,19 +77,23 @@ module _ (v w : FockVector) (hv : IsHeld v) (hw : IsHeld w) (one_degree : v.degr
   second : IsVector v.degree w.entries
   second = subst (λ n. IsVector n w.entries) (sym one_degree) hw.vector
 
+  -- the weight is within the limit exactly where all along the walk fits
   pub weight_tested : (limit : ℕ) → (scaled_sum_weight v a w ≤ limit)
       ↔ AllFit (size a) limit (joined v.entries w.entries)
   weight_tested limit = weight_within v.degree limit a v.entries w.entries hv.vector second
 
+  -- where the weight is within the limit, each sum along the walk can be made
   pub can_add_vectors : (limit : ℕ) → AllByRecursion (λ t. ProductWithin power_limit a t.1) w.entries
       → scaled_sum_weight v a w ≤ limit
       → AllByRecursion (CanAdd a limit) (joined v.entries w.entries)
   can_add_vectors limit within fits =
       can_add limit a v.entries w.entries hv.pairs hw.pairs within ((weight_tested limit).0 fits)
 
+  -- the sums along the walk are the entries of the sum of the vectors
   pub sum_of_vectors : combined (added a) (joined v.entries w.entries) ≡ (scaled_sum v a w).entries
   sum_of_vectors = sum_entries v.degree a v.entries w.entries hv.vector second
 
+  -- the sums along the walk may be held as a vector
   pub held_sum : (sums : Entries) → sums ≡ combined (added a) (joined v.entries w.entries) → ArePairs sums
       → IsHeld (held_as v.degree sums)
   held_sum sums e pairs = record {

@@ -14,15 +14,19 @@ module _ (factor : ℕ) (g : Growth) (js ks : List Joint) (step : js ≡ growth_
   sizes : size (growth_of g).first + factor * size (growth_of g).second ≡ grown_to factor g
   sizes = ap (λ k. k + factor * size (shown g.term)) (size-constant g.total)
 
+  -- where all fits, so does the first total
   pub head_fits : (limit : ℕ) → AllFit factor limit js → grown_to factor g ≤ limit
   head_fits limit h = subst (λ k. k ≤ limit) sizes (subst (AllFit factor limit) step h).0
 
+  -- where all fits, so does the rest
   pub rest_fits : (limit : ℕ) → AllFit factor limit js → AllFit factor limit ks
   rest_fits limit h = (subst (AllFit factor limit) step h).1
 
+  -- where the first total and the rest fit, so does all
   pub all_fit : (limit : ℕ) → grown_to factor g ≤ limit → AllFit factor limit ks → AllFit factor limit js
   all_fit limit h hs = subst (AllFit factor limit) (sym step) (subst (λ k. k ≤ limit) (sym sizes) h, hs)
 
+  -- the first total grows, and then the rest
   pub grown_step : grown_along factor js ≡ total_at g.at (grown_to factor g) ++ grown_along factor ks
   grown_step =
       ap (grown_along factor) step

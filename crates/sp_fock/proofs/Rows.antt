@@ -78,5 +78,6 @@ module _ (place width : ℕ) (cells : Cells) (lt : place < width) (sparse : IsSp
       let h = subst (λ cs. IsSparseFrom place width cs) split sparse in
       subst (λ cs. IsSparseFrom (place + 1) width cs) (sym split) (omega arith, h.1, h.2, h.3)
 
+  -- no cells lie behind any place
   pub no_cells : cells ≡ [] → IsSparseFrom (place + 1) width cells
   no_cells none = subst (λ cs. IsSparseFrom (place + 1) width cs) (sym none) tt

@@ -74,13 +74,16 @@ module _ (v : FockVector) (hv : IsHeld v) (es : Entries) (same : es ≡ v.entrie
   looked_up = ap (λ xs. vector_of xs lambda) same
 
   module _ (i : ℕ) (d : List ℕ × Laurent) (in_range : i < length es) where
+    -- what is found has the vector's polynomial there
     pub found_value : IsBinarySearchResult (λ t. order t.0 lambda) es (Ok i)
         → (get_or es i d).1 ≡ vector_of v.entries lambda
     found_value found = sym (found_in v.degree es vector lambda (Ok i) in_range found d) ∙ looked_up
 
+    -- where something is found, the vector isn't 0
     pub found_nonzero : IsBinarySearchResult (λ t. order t.0 lambda) es (Ok i) → vector_of v.entries lambda ≢ []
     found_nonzero found e = nonzero_at v.degree es vector i d in_range (found_value found ∙ e)
 
+  -- where nothing is found, the vector is 0
   pub absent_value : (i : ℕ) → i ≤ length es → IsBinarySearchResult (λ t. order t.0 lambda) es (Err i)
       → vector_of v.entries lambda ≡ []
   absent_value i in_range parted = sym looked_up ∙ found_in v.degree es vector lambda (Err i) in_range parted
@@ -91,6 +94,7 @@ module _ (t : TallyValue) (tally : IsTally t) (ts : Totals) (same : ts ≡ t.tot
   totals : IsTotals t.vector.degree ts
   totals = subst (IsTotals t.vector.degree) (sym same) tally.totals
 
+  -- what is found has the total there
   pub total_found : (i : ℕ) (d : List ℕ × ℕ) → i < length ts → IsBinarySearchResult (λ t. order t.0 lambda) ts (Ok i)
       → (get_or ts i d).1 ≡ total_of t.totals lambda
   total_found i d in_range found =
@@ -99,6 +103,7 @@ module _ (t : TallyValue) (tally : IsTally t) (ts : Totals) (same : ts ≡ t.tot
       (place_of t.vector.degree ts totals.partitions_of totals.ascending lambda (Ok i) found d)
       ∙ ap (λ us. total_of us lambda) same
 
+  -- where nothing is found, the total is 0
   pub total_absent : (i : ℕ) → IsBinarySearchResult (λ t. order t.0 lambda) ts (Err i) → 0 ≡ total_of t.totals lambda
   total_absent i parted =
       sym (total_of-absent ts lambda ([], 0)

@@ -17,6 +17,7 @@ use Rattle.sp_fock.specs.Growth.{grown_along}
 use Rattle.sp_fock.specs.Held.{IsHeld}
 use Rattle.sp_fock.specs.Sum.{AllFit}
 
+-- The tally of a vector and totals.
 abbrev pub tally_with : FockVector → Totals → TallyValue
 tally_with v ts = record { vector = v; totals = ts }
 
@@ -29,9 +30,11 @@ module _ (v : FockVector) (held : IsHeld v) (ts : Totals) (sizes : ts ≡ map (�
   are_sizes : ts ≡ (tally_of v).totals
   are_sizes = sizes ∙ sizes-totals v.degree v.entries held.vector
 
+  -- a vector with its sizes is its tally
   pub sizes_tally : tally_with v ts ≡ tally_of v
   sizes_tally = ap (tally_with v) are_sizes
 
+  -- and what is kept is a tally
   pub sizes_kept : IsTally (tally_with v ts)
   sizes_kept = subst IsTally (sym sizes_tally) (IsTally-tally_of v (subst AreSmall are_sizes (subst AreSmall (sym sizes)
       (all_map (λ total. total.1 < 2 ^ 127) (λ t. (t.0, size t.1)) v.entries
@@ -45,6 +48,7 @@ module _ (t : TallyValue) (tally : IsTally t) (a : Laurent) (w : FockVector) (he
   second : IsVector t.vector.degree w.entries
   second = subst (λ n. IsVector n w.entries) (sym one_degree) held.vector
 
+  -- the weight is within the limit exactly where all along the walk fits
   pub fits_exactly : (limit : ℕ) → (subtraction_weight t a w ≤ limit)
       ↔ AllFit (size a) limit (joined (constants t.totals) w.entries)
   fits_exactly limit = growth_within t.vector.degree limit a t.totals w.entries tally.totals second
@@ -54,9 +58,11 @@ module _ (t : TallyValue) (tally : IsTally t) (a : Laurent) (w : FockVector) (he
     are_grown : ts ≡ (subtracted t a w).totals
     are_grown = grown ∙ grown-totals t.vector.degree (size a) t.totals w.entries tally.totals second
 
+    -- the difference with the grown totals is the tally from which a times w is subtracted
     pub left_tally : tally_with v ts ≡ subtracted t a w
     left_tally = ap₂ tally_with left are_grown
 
+    -- and it is a tally where all along the walk fits
     pub left_kept : (limit : ℕ) → limit < 2 ^ 127 → AllFit (size a) limit (joined (constants t.totals) w.entries)
         → IsTally (tally_with v ts)
     left_kept limit most fits =

@@ -79,8 +79,7 @@ fn next_joint<'a>(
         // Partitions of one degree are in the order of their parts.
         (Some((pair, others)), Some((second_pair, second_others))) => match pair
             .0
-            .parts()
-            .cmp(second_pair.0.parts())
+            .compare_parts(&second_pair.0)
         {
             Ordering::Less => Some((only_first(pair), others, second)),
             Ordering::Equal => Some((both(pair, second_pair), others, second_others)),

@@ -37,7 +37,7 @@ impl<'a> Iterator for Merged<'a> {
                 Some(only_term(self.alloc, term))
             }
             // Partitions of one degree are in the order of their parts.
-            (Some(pair), Some((term, terms))) => match pair.0.parts().cmp(term.0.parts()) {
+            (Some(pair), Some((term, terms))) => match pair.0.compare_parts(&term.0) {
                 Ordering::Less => {
                     self.advance();
                     Some(only_pair(pair))

@@ -1,6 +1,5 @@
 // The canonical text of a vector.
-ghost use Rattle.std.specs.Prelude.{◌≡◌, ◌++◌, ◌↔◌, take, length, flat_map, true, IsTrue, OnOk, OnErr};
-ghost use Rattle.sp_fock.specs.Print.{first_entry_text};
+ghost use Rattle.std.specs.Prelude.{◌≡◌, ◌++◌, ◌↔◌, take, length, cond, flat_map, true, IsTrue, OnOk, OnErr};
 ghost use Rattle.sp_defs.specs.Text.{entry_text, factor_text, next_entry_text, vector_text, written};
 ghost use Rattle.sp_defs.specs.Text.{has_minus as has_minus_of};
 
@@ -32,7 +31,14 @@ fn put_terms(alloc: Global, out: &mut Vec<u8>, terms: Terms<'_>) -> Result<(), A
     let mut rest = terms;
     match rest.next() {
         Some((at, coefficient)) => {
-            put_first_entry(alloc, out, &at, coefficient)?;
+            put_signed_entry(
+                alloc,
+                out,
+                b"-".as_slice(),
+                b"".as_slice(),
+                &at,
+                coefficient,
+            )?;
             put_rest(alloc, out, rest)
         }
         None => {
@@ -48,36 +54,33 @@ fn put_rest(alloc: Global, out: &mut Vec<u8>, terms: Terms<'_>) -> Result<(), Al
     ensures kept { OnErr result (take (length out.old.items) out.new.items ≡ out.old.items) }
 {
     for (at, coefficient) in terms {
-        put_next_entry(alloc, out, &at, coefficient)?;
+        put_signed_entry(
+            alloc,
+            out,
+            b" - ".as_slice(),
+            b" + ".as_slice(),
+            &at,
+            coefficient,
+        )?;
     }
     Ok(())
 }
 
-fn put_first_entry(
+// An entry behind its sign: `minus` where it is a single negative term, and `plus` elsewhere.
+fn put_signed_entry(
     alloc: Global,
     out: &mut Vec<u8>,
+    minus: &[u8],
+    plus: &[u8],
     at: &Partition,
     coefficient: &Laurent,
 ) -> Result<(), AllocError>
-    ensures text { OnOk result (out.new.items ≡ out.old.items ++ first_entry_text (at.now, coefficient.now)) }
+    ensures text { OnOk result (out.new.items ≡ out.old.items
+        ++ (cond (has_minus_of coefficient.now) minus.now plus.now ++ entry_text (at.now, coefficient.now))) }
     ensures kept { OnErr result (take (length out.old.items) out.new.items ≡ out.old.items) }
 {
-    let sign = if has_minus(coefficient) { "-" } else { "" };
-    out.extend_from_slice(sign.as_bytes())?;
-    put_entry(alloc, out, at, coefficient)
-}
-
-fn put_next_entry(
-    alloc: Global,
-    out: &mut Vec<u8>,
-    at: &Partition,
-    coefficient: &Laurent,
-) -> Result<(), AllocError>
-    ensures text { OnOk result (out.new.items ≡ out.old.items ++ next_entry_text (at.now, coefficient.now)) }
-    ensures kept { OnErr result (take (length out.old.items) out.new.items ≡ out.old.items) }
-{
-    let sign = if has_minus(coefficient) { " - " } else { " + " };
-    out.extend_from_slice(sign.as_bytes())?;
+    let sign = if has_minus(coefficient) { minus } else { plus };
+    out.extend_from_slice(sign)?;
     put_entry(alloc, out, at, coefficient)
 }
 

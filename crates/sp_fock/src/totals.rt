@@ -93,11 +93,7 @@ fn next_growth<'a>(
         (Some((total, others)), None) => Some((only_total(total), others, terms)),
         (None, Some((term, others))) => Some((only_term(term), totals, others)),
         // Partitions of one degree are in the order of their parts.
-        (Some((total, others)), Some((term, other_terms))) => match total
-            .0
-            .parts()
-            .cmp(term.0.parts())
-        {
+        (Some((total, others)), Some((term, other_terms))) => match total.0.compare_parts(&term.0) {
             Ordering::Less => Some((only_total(total), others, terms)),
             Ordering::Equal => Some((total_and_term(total, term), others, other_terms)),
             Ordering::Greater => Some((only_term(term), totals, other_terms)),

@@ -1,4 +1,4 @@
-use Rattle.std.proofs.Common.{◌≡◌, ◌∷◌, sym, ◌∙◌, ap, ap₂, Less, Equal, Greater}
+use Rattle.std.proofs.Common.{◌≡◌, ◌∷◌, sym, ◌∙◌, ap, Less, Equal, Greater}
 use Rattle.sp_defs.specs.Partition.{compare}
 use Rattle.sp_fock_law.specs.Joined.{joined}
 use Rattle.sp_fock_law.proofs.Steps.{
@@ -28,8 +28,7 @@ pub returns-in-Less-clause-some : goal.returns-in-Less-clause-some
 returns-in-Less-clause-some c =
     let pair = c.in-Some-Some in
     let ordered : compare pair.pair.now.0 pair.second_pair.now.0 ≡ Less =
-    ap₂ compare (sym c.parts.ensures.parts) (sym c.parts-in-Some-Some.ensures.parts)
-    ∙ sym c.cmp.ensures ∙ c.in-Less.is in
+    sym c.compare_parts.ensures ∙ c.in-Less.is in
     joined-less _ _ _ _ _ _ pair.ensures.cases.0 pair.ensures'.cases.0 ordered
     ∙ ap (λ j. j ∷ joined pair.others.now c.args.second.now) (sym c.only_first-in-Less.ensures)
 
@@ -37,8 +36,7 @@ pub returns-in-Equal-clause-some : goal.returns-in-Equal-clause-some
 returns-in-Equal-clause-some c =
     let pair = c.in-Some-Some in
     let ordered : compare pair.pair.now.0 pair.second_pair.now.0 ≡ Equal =
-    ap₂ compare (sym c.parts.ensures.parts) (sym c.parts-in-Some-Some.ensures.parts)
-    ∙ sym c.cmp.ensures ∙ c.in-Equal.is in
+    sym c.compare_parts.ensures ∙ c.in-Equal.is in
     joined-equal _ _ _ _ _ _ pair.ensures.cases.0 pair.ensures'.cases.0 ordered
     ∙ ap (λ j. j ∷ joined pair.others.now pair.second_others.now) (sym c.both.ensures)
 
@@ -46,7 +44,6 @@ pub returns-in-Greater-clause-some : goal.returns-in-Greater-clause-some
 returns-in-Greater-clause-some c =
     let pair = c.in-Some-Some in
     let ordered : compare pair.pair.now.0 pair.second_pair.now.0 ≡ Greater =
-    ap₂ compare (sym c.parts.ensures.parts) (sym c.parts-in-Some-Some.ensures.parts)
-    ∙ sym c.cmp.ensures ∙ c.in-Greater.is in
+    sym c.compare_parts.ensures ∙ c.in-Greater.is in
     joined-greater _ _ _ _ _ _ pair.ensures.cases.0 pair.ensures'.cases.0 ordered
     ∙ ap (λ j. j ∷ joined c.args.first.now pair.second_others.now) (sym c.only_second-in-Greater.ensures)

@@ -1,4 +1,4 @@
-use Rattle.std.proofs.Common.{◌≡◌, ◌∷◌, length, sym, ◌∙◌, ap, ap₂, Less, Equal, Greater}
+use Rattle.std.proofs.Common.{◌≡◌, ◌∷◌, length, sym, ◌∙◌, ap, Less, Equal, Greater}
 use Rattle.std.proofs.lemmas.List.{length-map}
 use Rattle.sp_defs.specs.Partition.{compare}
 use Rattle.sp_fock_law.specs.Joined.{joined}
@@ -35,8 +35,7 @@ pub returns-in-Less-clause-some : goal.returns-in-Less-clause-some
 returns-in-Less-clause-some c =
     let both = c.in-Some-Some in
     let ordered : compare both.total.now.0 both.term.now.0 ≡ Less =
-    ap₂ compare (sym c.parts.ensures.parts) (sym c.parts-in-Some-Some.ensures.parts)
-    ∙ sym c.cmp.ensures ∙ c.in-Less.is in
+    sym c.compare_parts.ensures ∙ c.in-Less.is in
     joined-less _ _ _ _ _ _ (ap constants both.ensures.cases.0) both.ensures'.cases.0 ordered
     ∙ ap (λ j. j ∷ joined (constants both.others.now) c.args.terms.now) (sym c.only_total-in-Less.ensures)
 
@@ -44,8 +43,7 @@ pub returns-in-Equal-clause-some : goal.returns-in-Equal-clause-some
 returns-in-Equal-clause-some c =
     let both = c.in-Some-Some in
     let ordered : compare both.total.now.0 both.term.now.0 ≡ Equal =
-    ap₂ compare (sym c.parts.ensures.parts) (sym c.parts-in-Some-Some.ensures.parts)
-    ∙ sym c.cmp.ensures ∙ c.in-Equal.is in
+    sym c.compare_parts.ensures ∙ c.in-Equal.is in
     joined-equal _ _ _ _ _ _ (ap constants both.ensures.cases.0) both.ensures'.cases.0 ordered
     ∙ ap (λ j. j ∷ joined (constants both.others.now) both.other_terms.now) (sym c.total_and_term.ensures)
 
@@ -54,7 +52,6 @@ unfolding constant
 returns-in-Greater-clause-some c =
     let both = c.in-Some-Some in
     let ordered : compare both.total.now.0 both.term.now.0 ≡ Greater =
-    ap₂ compare (sym c.parts.ensures.parts) (sym c.parts-in-Some-Some.ensures.parts)
-    ∙ sym c.cmp.ensures ∙ c.in-Greater.is in
+    sym c.compare_parts.ensures ∙ c.in-Greater.is in
     joined-greater _ _ _ _ _ _ (ap constants both.ensures.cases.0) both.ensures'.cases.0 ordered
     ∙ ap (λ j. j ∷ joined (constants c.args.totals.now) both.other_terms.now) (sym c.only_term-in-Greater.ensures)

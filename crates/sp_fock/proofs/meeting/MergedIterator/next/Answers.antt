@@ -53,8 +53,7 @@ returns-in-Less-clause-steps c =
     ≡ both.pair ∷ into_iter_items c.args.self.now.others =
     ap (λ h. pairs_left h c.args.self.now.others) head in
     let ordered : compare both.pair.0 both.term.now.0 ≡ Less =
-    ap₂ compare (sym c.parts.ensures.parts) (sym c.parts-in-Some-Some.ensures.parts)
-    ∙ sym c.cmp.ensures ∙ c.in-Less.is in
+    sym c.compare_parts.ensures ∙ c.in-Less.is in
     joined-less _ _ _ _ _ _ left both.ensures'.cases.0 ordered
     ∙ ap (λ m. m ∷ joined (into_iter_items c.args.self.now.others) c.args.self.now.second.now)
     (sym c.only_pair-in-Less.ensures)
@@ -74,8 +73,7 @@ returns-in-Equal-clause-steps c =
     ≡ both.pair ∷ into_iter_items c.args.self.now.others =
     ap (λ h. pairs_left h c.args.self.now.others) head in
     let ordered : compare both.pair.0 both.term.now.0 ≡ Equal =
-    ap₂ compare (sym c.parts.ensures.parts) (sym c.parts-in-Some-Some.ensures.parts)
-    ∙ sym c.cmp.ensures ∙ c.in-Equal.is in
+    sym c.compare_parts.ensures ∙ c.in-Equal.is in
     joined-equal _ _ _ _ _ _ left both.ensures'.cases.0 ordered
     ∙ ap₂ (λ m es. m ∷ joined es both.terms.now) (sym c.pair_and_term.ensures)
     (sym c.advance-in-Equal.ensures.pairs)
@@ -93,8 +91,7 @@ returns-in-Greater-clause-steps c =
     ≡ both.pair ∷ into_iter_items c.args.self.now.others =
     ap (λ h. pairs_left h c.args.self.now.others) head in
     let ordered : compare both.pair.0 both.term.now.0 ≡ Greater =
-    ap₂ compare (sym c.parts.ensures.parts) (sym c.parts-in-Some-Some.ensures.parts)
-    ∙ sym c.cmp.ensures ∙ c.in-Greater.is in
+    sym c.compare_parts.ensures ∙ c.in-Greater.is in
     joined-greater _ _ _ _ _ _ left both.ensures'.cases.0 ordered
     ∙ ap₂ (λ m es. m ∷ joined es both.terms.now) (sym c.only_term-in-Greater.ensures) left
 
