@@ -108,7 +108,7 @@ fn run_sum(
     };
     let mut sum = share(alloc, pairs, first)?;
     for arrival in others {
-        sum = plus_share(alloc, sum, pairs, arrival, limit)?;
+        sum = plus_share(sum, pairs, arrival, limit)?;
     }
     Ok(sum)
 }
@@ -127,7 +127,6 @@ fn share(
 
 // A sum and what one move more brings.
 fn plus_share(
-    alloc: Global,
     sum: Laurent,
     pairs: &[(Partition, Laurent)],
     arrival: &Arrival,
@@ -140,6 +139,5 @@ fn plus_share(
     ensures sum { IfOk result (λ more. more ≡ plus sum (share_of pairs.now arrival.now)) }
     ensures fits { ¬ IsErrOf result PowerFault.TooLarge }
 {
-    let power = Laurent::monomial(alloc, 1, arrival.exponent)?;
-    Ok(sum.plus_product(&power, &pairs[arrival.source].1, limit)?)
+    Ok(sum.plus_shifted(&pairs[arrival.source].1, arrival.exponent, limit)?)
 }
