@@ -1,14 +1,12 @@
 // What a tally has at one partition.
 ghost use Rattle.std.specs.Prelude.{◌≡◌, ◌+◌, ◌*◌, ◌^◌, ◌<◌, ◌≤◌, ◌↔◌, [], IsTrue, IfOk, OnOk, IsErrOf, IfSome, IfNone};
 ghost use Rattle.sp_defs.specs.Laurent.{size};
-ghost use Rattle.sp_defs.specs.Power.{vector_of};
 ghost use Rattle.sp_defs.specs.Within.{ProductWithin};
 ghost use Rattle.sp_laurent.specs.Held.{IsHeld, power_limit};
 ghost use Rattle.sp_slots.specs.Slot.{nothing, sized, grown, IsSlot};
 
-use sp_fock::{FockFault, Vector};
+use sp_fock::FockFault;
 use sp_laurent::Laurent;
-use sp_partition::Partition;
 use std::alloc::{AllocError, Global};
 
 /// A polynomial, and a total that is at least its size.
@@ -29,17 +27,14 @@ impl Slot {
         }
     }
 
-    /// What the vector has at the partition, with its size as the total.
-    pub(crate) fn of(alloc: Global, v: &Vector, p: &Partition) -> Result<Slot, AllocError>
-        ensures { IfOk result (λ slot. slot ≡ sized (vector_of v.now.entries p.now)) }
+    /// A polynomial with its size as the total.
+    pub(crate) fn sized(alloc: Global, coefficient: &Laurent) -> Result<Slot, AllocError>
+        ensures { IfOk result (λ slot. slot ≡ sized coefficient.now) }
     {
-        match v.coefficient(p) {
-            Some(coefficient) => Ok(Slot {
-                coefficient: coefficient.copy(alloc)?,
-                total: coefficient.size(),
-            }),
-            None => Ok(Slot::empty(alloc)),
-        }
+        Ok(Slot {
+            coefficient: coefficient.copy(alloc)?,
+            total: coefficient.size(),
+        })
     }
 
     pub(crate) fn is_zero(&self) -> bool

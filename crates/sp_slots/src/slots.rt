@@ -42,8 +42,15 @@ impl Slots {
         ensures { IfOk result (λ slots. slots ≡ tally_of v.now) }
     {
         let mut slots = Vec::with_capacity(alloc, all.len())?;
+        let pairs = v.pairs();
+        let mut place = 0;
         for p in all {
-            slots.push(Slot::of(alloc, v, p)?)?;
+            if place < pairs.len() && pairs[place].0 == *p {
+                slots.push(Slot::sized(alloc, &pairs[place].1)?)?;
+                place += 1;
+            } else {
+                slots.push(Slot::empty(alloc))?;
+            }
         }
         Ok(Slots {
             degree: v.degree(),
