@@ -2,7 +2,7 @@
 use Rattle.std.proofs.Common.{◌≡◌, ℕ, ◌≤◌, List, refl, sym, ◌∙◌, ap, ap₂, arith, slice_get}
 use Rattle.std.specs.Prelude.{Some}
 use Rattle.sp_lang.specs.Commands.{places_of, command_of, number, partition, weight, word_at}
-use Rattle.sp_lang.specs.Given.{IsCommand, IsWithE, IsLabel}
+use Rattle.sp_lang.specs.Given.{IsCommand, IsWithE, IsGivenLabel}
 use Rattle.sp_lang.specs.Values.{number_read, partition_read, value_of, value_at, byte_said, partition_said}
 use Rattle.sp_lang.specs.Values.{fitting, all_fitting, read_all, words_of, given_command}
 use Rattle.sp_lang.specs.declared.command.Command.TheVariants as command
@@ -56,7 +56,7 @@ module _ (places : List Place) (ws : List (List ℕ)) (f : Faultless places ws) 
   with_e at_e at_p = (e_at places ws f 0 at_e, partition_at places ws f 1 at_p)
 
   label : slice_get places 0 ≡ Some E → slice_get places 1 ≡ Some Label →
-      IsLabel (number (word_at ws 0)) (partition (word_at ws 1))
+      IsGivenLabel (number (word_at ws 0)) (partition (word_at ws 1))
   label at_e at_p =
       let mu = label_at places ws f 1 at_p in
       record { e_range = e_at places ws f 0 at_e; given = mu.0; regular = mu.1 }

@@ -20,7 +20,7 @@ pub record IsGiven (p : List ℕ) : Type 0 where
   pub small : degree p ≤ DEGREE_LIMIT
 
 -- An e-regular one, with its e.
-pub record IsLabel (e : ℕ) (mu : List ℕ) : Type 0 where
+pub record IsGivenLabel (e : ℕ) (mu : List ℕ) : Type 0 where
   pub e_range : IsE e
   pub given : IsGiven mu
   pub regular : is_regular e mu ≡ true
@@ -48,12 +48,12 @@ IsCommand (Core e p) = IsWithE e p
 IsCommand (Combine e p quotient) = IsE e × IsGiven p × All IsGiven quotient
 IsCommand (Abacus e p) = IsWithE e p
 IsCommand (Good e p) = IsWithE e p
-IsCommand (Path e mu) = IsLabel e mu
-IsCommand (Mullineux e mu) = IsLabel e mu
+IsCommand (Path e mu) = IsGivenLabel e mu
+IsCommand (Mullineux e mu) = IsGivenLabel e mu
 IsCommand (Induce e i m p) = IsInduction e i m p
-IsCommand (Ladders e mu) = IsLabel e mu
-IsCommand (Ladder e mu) = IsLabel e mu
-IsCommand (Row e mu) = IsLabel e mu
+IsCommand (Ladders e mu) = IsGivenLabel e mu
+IsCommand (Ladder e mu) = IsGivenLabel e mu
+IsCommand (Row e mu) = IsGivenLabel e mu
 IsCommand (Crystal e n) = IsE e × (n ≤ DEGREE_LIMIT)
 IsCommand (Decomposition e n) = IsE e × (n ≤ DEGREE_LIMIT)
 IsCommand (Block e core w) = IsE e × IsGiven core × (w < 2 ^ 64)
