@@ -32,6 +32,7 @@ comma-map : {X Y : Type 0} (f : X → Y) (xs : List X) → comma_behind (map f x
 comma-map f [] = refl
 comma-map f (x ∷ xs) = refl
 
+-- The texts of one element more are those so far, a comma unless there are none, and the text of the element.
 pub joined-more : {X : Type 0} (f : X → List ℕ) (xs : List X) (i : ℕ) (d : X) → i < length xs →
     joined_by (codes ",") (map f (take (i + 1) xs))
     ≡ joined_by (codes ",") (map f (take i xs)) ++ (cond (nat_eq i 0) [] (codes ",") ++ f (get_or xs i d))
@@ -42,6 +43,7 @@ joined-more f xs i d lt =
     ∙ ap (λ comma. joined_by (codes ",") (map f (take i xs)) ++ (comma ++ f (get_or xs i d)))
     (comma-map f (take i xs) ∙ comma-take xs i lt)
 
+-- What has the texts of the first i elements behind it has those of one more, once that text is appended.
 pub written_item : {X : Type 0} (f : X → List ℕ) (xs : List X) (i : ℕ) (x : X) (old before now : List ℕ) →
     i < length xs → x ≡ get_or xs i x → before ≡ old ++ joined_by (codes ",") (map f (take i xs)) →
     now ≡ before ++ (cond (nat_eq i 0) [] (codes ",") ++ f x) →
@@ -113,6 +115,7 @@ joined_new f xs q false =
     ∙ ap (λ comma. joined_by (codes ",") (map f (distinct xs)) ++ (comma ++ f q))
     (comma-map f (distinct xs) ∙ comma-distinct xs)
 
+-- The texts of the distinct numbers among one number more: a text is added only for a new number.
 pub joined-distinct-more : (f : ℕ → List ℕ) (xs : List ℕ) (i d : ℕ) → i < length xs →
     joined_by (codes ",") (map f (distinct (take (i + 1) xs)))
     ≡ joined_by (codes ",") (map f (distinct (take i xs)))

@@ -27,6 +27,7 @@ pub record IsWritten (notation : Notation) (parts old new : List ℕ) (i : ℕ) 
   pub kept : take (length old) new ≡ old
 
 module _ (notation : Notation) (parts old new : List ℕ) (i : ℕ) (h : IsWritten notation parts old new i) where
+  -- One part more is written.
   pub written_more : (now : List ℕ) → i < length parts → now ≡ new ++ new_part_text notation parts i →
       IsWritten notation parts old now (i + 1)
   written_more now lt e = record {
@@ -37,6 +38,7 @@ module _ (notation : Notation) (parts old new : List ℕ) (i : ℕ) (h : IsWritt
     kept = kept_more old new now (new_part_text notation parts i) h.kept e;
   }
 
+  -- When all parts are written, the text of the partition is appended.
   pub written_all : 0 < length parts → length parts ≤ i → new ≡ old ++ partition_text notation parts
   written_all some le = h.text ∙ ap (λ t. old ++ t)
       (ap (λ qs. joined_by (codes ",") (map (run_text notation parts) (distinct qs))) (take_all i parts le)

@@ -12,9 +12,11 @@ module _ (g : GridValue) (grid : IsGrid g) (lines : List (List ℕ)) (same : lin
   as_long : length lines ≡ length g.cells
   as_long = ap length same ∙ sym grid.height
 
+  -- A place of a line is a place of a row of cells.
   pub within : i < length lines → i < length g.cells
   within lt = omega (arith, as_long)
 
+  -- The cells that the grid lends at such a place are the element in this place.
   pub row_at : (row : List Laurent) → i < length lines → row ≡ row_of g i → row ≡ get_or g.cells i row
   row_at row lt is = is ∙ get_or_default g.cells i [] row (within lt)
 
@@ -29,6 +31,7 @@ module _ (g : GridValue) (grid : IsGrid g) (lines : List (List ℕ)) (same : lin
 
   module _ (text : List ℕ × List Laurent → List ℕ) (before whole : List ℕ)
       (h : before ++ flat_map text (drop i (rows_of g)) ≡ whole) where
+    -- What is missing of the whole text is less by one line, once the text of that line is appended.
     pub written_row : (line : List ℕ) (cells : List Laurent) (now : List ℕ) → i < length lines →
         line ≡ get_or lines i line → cells ≡ row_of g i → now ≡ before ++ text (line, cells) →
         now ++ flat_map text (drop (i + 1) (rows_of g)) ≡ whole
@@ -37,6 +40,7 @@ module _ (g : GridValue) (grid : IsGrid g) (lines : List (List ℕ)) (same : lin
         ∙ append_assoc before (text (line, row_of g i)) (flat_map text (drop (i + 1) (rows_of g)))
         ∙ ap (λ rows. before ++ flat_map text rows) (sym (rows-drop line lt is)) ∙ h
 
+    -- After the last line nothing is missing.
     pub written_rows : length lines ≤ i → before ≡ whole
     written_rows le =
         sym (append-nil before)

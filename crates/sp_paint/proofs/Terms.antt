@@ -5,6 +5,7 @@ use Rattle.std.specs.Fmt.{decimal}
 use Rattle.sp_paint.specs.declared.notation.Notation.{Notation}
 use Rattle.sp_paint.specs.Notation.{factor_text, power_text, term_text}
 
+-- A term at a power that isn't 0 is written by its factor and its power of v.
 pub written_term : (notation : Notation) (k c : ℤ) (size : ℕ) (old between new : List ℕ) → int_eq k (pos 0) ≡ false →
     size ≡ unsigned_abs c → between ≡ old ++ factor_text notation size → new ≡ between ++ power_text notation k →
     new ≡ old ++ term_text notation (k, c)

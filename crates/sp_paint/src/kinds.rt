@@ -1,6 +1,7 @@
 //! The painters of this crate, one for each form, with the name of the form.
-ghost use Rattle.std.specs.Prelude.{◌≡◌};
-ghost use Rattle.sp_paint.specs.State.{named_by_form};
+ghost use Rattle.std.specs.Prelude.{◌≡◌, ◌++◌, OnOk, OnErr};
+ghost use Rattle.sp_paint.specs.Page.{page_text};
+ghost use Rattle.sp_paint.specs.State.{named_by_form, one_more};
 ghost use Rattle.sp_paint.specs.declared.form.Form.TheVariants.{Plain as plain_form, Tex as tex_form, Gap as gap_form};
 
 use crate::{Form, Painter, put_page, put_trailer};
@@ -30,10 +31,7 @@ impl Painter for Plain {
     }
 
     fn page(&mut self, alloc: Global, grid: &Grid, out: &mut Vec<u8>) -> Result<(), AllocError> {
-        let pages = self.pages.saturating_add(1);
-        put_page(alloc, Form::Plain, pages, grid, out)?;
-        self.pages = pages;
-        Ok(())
+        put_next_page(alloc, Form::Plain, &mut self.pages, grid, out)
     }
 
     fn trailer(&self, _alloc: Global, out: &mut Vec<u8>) -> Result<(), AllocError> {
@@ -64,10 +62,7 @@ impl Painter for Tex {
     }
 
     fn page(&mut self, alloc: Global, grid: &Grid, out: &mut Vec<u8>) -> Result<(), AllocError> {
-        let pages = self.pages.saturating_add(1);
-        put_page(alloc, Form::Tex, pages, grid, out)?;
-        self.pages = pages;
-        Ok(())
+        put_next_page(alloc, Form::Tex, &mut self.pages, grid, out)
     }
 
     fn trailer(&self, _alloc: Global, out: &mut Vec<u8>) -> Result<(), AllocError> {
@@ -98,13 +93,29 @@ impl Painter for Gap {
     }
 
     fn page(&mut self, alloc: Global, grid: &Grid, out: &mut Vec<u8>) -> Result<(), AllocError> {
-        let pages = self.pages.saturating_add(1);
-        put_page(alloc, Form::Gap, pages, grid, out)?;
-        self.pages = pages;
-        Ok(())
+        put_next_page(alloc, Form::Gap, &mut self.pages, grid, out)
     }
 
     fn trailer(&self, _alloc: Global, out: &mut Vec<u8>) -> Result<(), AllocError> {
         put_trailer(Form::Gap, self.pages, out)
     }
+}
+
+// Appends the page that follows so many pages of a form, and counts it. An `Err` leaves `pages` and `out` as they were.
+fn put_next_page(
+    alloc: Global,
+    form: Form,
+    pages: &mut u64,
+    grid: &Grid,
+    out: &mut Vec<u8>,
+) -> Result<(), AllocError>
+    ensures text { OnOk result (out.new.items ≡ out.old.items ++ page_text form (one_more pages.old) grid.now) }
+    ensures next { OnOk result (pages.new ≡ one_more pages.old) }
+    ensures kept { OnErr result (pages.new ≡ pages.old) }
+    ensures kept_out { OnErr result (out.new.items ≡ out.old.items) }
+{
+    let number = pages.saturating_add(1);
+    put_page(alloc, form, number, grid, out)?;
+    *pages = number;
+    Ok(())
 }

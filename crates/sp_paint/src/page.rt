@@ -21,30 +21,16 @@ pub fn put_page(
     ensures text { OnOk result (out.new.items ≡ out.old.items ++ page_text form number grid.now) }
     ensures kept { OnErr result (out.new.items ≡ out.old.items) }
 {
-    let length = out.len();
-    let printed = put_form(alloc, form, number, grid, out);
-    if printed.is_err() {
-        out.truncate(length);
-    }
-    printed
-}
-
-// An `Err` may leave more at the end of `out`.
-fn put_form(
-    alloc: Global,
-    form: Form,
-    number: u64,
-    grid: &Grid,
-    out: &mut Vec<u8>,
-) -> Result<(), AllocError>
-    ensures text { OnOk result (out.new.items ≡ out.old.items ++ page_text form number grid.now) }
-    ensures kept { OnErr result (take (length out.old.items) out.new.items ≡ out.old.items) }
-{
-    match form {
+    let start = out.len();
+    let printed = match form {
         Form::Plain => put_plain_page(alloc, grid, out),
         Form::Tex => put_tex_page(number, grid, out),
         Form::Gap => put_gap_page(number, grid, out),
+    };
+    if printed.is_err() {
+        out.truncate(start);
     }
+    printed
 }
 
 /// Appends the trailer of a form after this number of pages. An `Err` leaves `out` as it was.

@@ -17,13 +17,7 @@ pub(crate) fn put_partition(
     ensures text { OnOk result (out.new.items ≡ out.old.items ++ partition_text notation partition.now) }
     ensures kept { OnErr result (take (length out.old.items) out.new.items ≡ out.old.items) }
 {
-    put_parts(notation, partition.parts(), out)
-}
-
-fn put_parts(notation: Notation, parts: &[u8], out: &mut Vec<u8>) -> Result<(), AllocError>
-    ensures text { OnOk result (out.new.items ≡ out.old.items ++ partition_text notation parts.now) }
-    ensures kept { OnErr result (take (length out.old.items) out.new.items ≡ out.old.items) }
-{
+    let parts = partition.parts();
     if parts.is_empty() {
         return Ok(out.push(b'-')?);
     }

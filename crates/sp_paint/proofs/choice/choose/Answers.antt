@@ -1,7 +1,7 @@
 use Rattle.std.proofs.Common.{sym, ◌∙◌}
 use Rattle.std.specs.Str.{bytes_eq}
+use Rattle.sp_lists.proofs.Positions.{none_more, position_absent, position_found}
 use Rattle.sp_paint.specs.State.{name_of}
-use Rattle.sp_paint.proofs.First.{none_more, position_absent, position_found}
 use Rattle.sp_paint.proofs.choice.choose.Goals as goal
 
 pub returns-then-has_name : goal.returns-then-has_name

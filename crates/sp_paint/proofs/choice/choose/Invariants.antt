@@ -1,7 +1,7 @@
 use Rattle.std.proofs.Common.{take}
 use Rattle.std.specs.Str.{bytes_eq}
+use Rattle.sp_lists.proofs.Positions.{NoneOf}
 use Rattle.sp_paint.specs.State.{name_of}
-use Rattle.sp_paint.proofs.First.{NoneOf}
 use Rattle.sp_paint.proofs.choice.choose.Given as goal
 
 abbrev pub invariant-loop-place : goal.invariant-loop-place
