@@ -12,3 +12,6 @@ pub mod Found
 pub mod Laws
 pub mod NoStray
 pub mod Firsts
+pub mod Adopting
+pub mod Adopted
+pub mod Ranked

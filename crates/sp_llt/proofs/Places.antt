@@ -1,6 +1,6 @@
 -- Where the e-regular partitions stand, found one by one.
-use Rattle.std.proofs.Common.{◌≡◌, ℕ, ◌+◌, ◌<◌, true, false, cond, List, [], ◌∷◌, ◌++◌, map, filter, take, length, get_or}
-use Rattle.std.proofs.Common.{refl, sym, ◌∙◌, ap, ap₂, subst, arith}
+use Rattle.std.proofs.Common.{◌≡◌, ℕ, ◌+◌, ◌<◌, true, false, cond, List, [], ◌∷◌, ◌++◌, filter, take, length, get_or}
+use Rattle.std.proofs.Common.{refl, sym, ◌∙◌, ap, ap₂, subst}
 use Rattle.std.proofs.lemmas.List.{take_more, map-append, append-nil, get_or-map, length-map}
 use Rattle.std.specs.List.{AllByRecursion}
 use Rattle.sp_defs.specs.Partition.{is_regular, partitions, regulars}

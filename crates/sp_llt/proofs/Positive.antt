@@ -1,5 +1,5 @@
 -- Where only positive powers occur: the lift is 0, and the test on the terms says so.
-use Rattle.std.proofs.Common.{◌≡◌, Bool, true, false, [], ◌∷◌, refl, sym, ◌∙◌, ap, arith, ℤ, pos, ◌<ℤ◌}
+use Rattle.std.proofs.Common.{◌≡◌, Bool, true, [], ◌∷◌, refl, sym, ◌∙◌, ap, arith, ℤ, pos, ◌<ℤ◌}
 use Rattle.std.proofs.Common.{int_cmp, Less, Equal, Greater, Ordering, IsTrue, ◌↔◌, ◌&&◌}
 use Rattle.std.specs.Ordering.{MatchOrdering, is_gt}
 use Rattle.std.specs.Cmp.{int_ranks}

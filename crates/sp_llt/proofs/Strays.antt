@@ -1,16 +1,15 @@
 -- Stray partitions: the search through the entries of a vector finds what the search through all partitions finds.
 use Rattle.std.proofs.Common.{◌≡◌, ℕ, Bool, true, false, cond, ◌&&◌, not, nat_lt, nat_eq}
 use Rattle.std.proofs.Common.{List, [], ◌∷◌, map, filter, length}
-use Rattle.std.proofs.Common.{reverse, refl, sym, ◌∙◌, ap, Option, Some, None, Ordering, Less, Equal, Greater}
+use Rattle.std.proofs.Common.{reverse, refl, sym, ◌∙◌, ap, Option, Some, None}
 use Rattle.std.specs.List.{find}
 use Rattle.std.specs.Option.{option_map}
 use Rattle.std.specs.Ordering.{is_eq}
-use Rattle.std.specs.Cmp.Lexicographic.{pointwise, same_text, other_text}
+use Rattle.std.specs.Cmp.Lexicographic.{pointwise}
 use Rattle.sp_defs.specs.Partition.{compare, partitions, degree}
 use Rattle.sp_defs.specs.Laurent.{Laurent}
 use Rattle.sp_defs.specs.Power.{Vector, entries}
 use Rattle.sp_defs.specs.Row.{is_positive, stray, regular_row}
-use Rattle.sp_shapes.proofs.Order.{equal_self, same_lists}
 use Rattle.sp_outcome_law.proofs.Listed.{no_element}
 use Rattle.sp_lists.proofs.Comparing.{same_equality}
 use Rattle.sp_llt.proofs.Lists.{found_first, if_passes, find_back}

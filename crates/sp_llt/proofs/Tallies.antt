@@ -1,6 +1,6 @@
 -- What a builder keeps: the tally, and the shares so far, at the start and from rank to rank.
 use Rattle.std.proofs.Common.{◌≡◌, ℕ, ◌+◌, ◌*◌, ◌<◌, ◌≤◌, Bool, true, false, ◌||◌, List}
-use Rattle.std.proofs.Common.{[], ◌∷◌, ◌++◌, map, filter, length}
+use Rattle.std.proofs.Common.{[], ◌∷◌, ◌++◌, map, length}
 use Rattle.std.proofs.Common.{reverse, refl, sym, ◌∙◌, ap, ap₂, arith, Some, nat_lt, lt-ltb, le-ltb, ℤ}
 use Rattle.std.proofs.Common.{inl, inr, subst}
 use Rattle.std.proofs.lemmas.Int.{ints}
@@ -19,7 +19,7 @@ use Rattle.sp_lists.proofs.Greatest.{within_greatest, within_map}
 use Rattle.sp_lists.proofs.Occurrence.{at_occurs}
 use Rattle.sp_shapes.proofs.Listing.{all_partitions, each_partition}
 use Rattle.sp_shapes.proofs.Order.{all_mono}
-use Rattle.sp_fock_law.specs.Tally.{TallyValue, totals, tally_of, subtracted, subtraction_weight, grown_total}
+use Rattle.sp_fock_law.specs.Tally.{TallyValue, tally_of, subtracted, subtraction_weight, grown_total}
 use Rattle.sp_fock_law.specs.Tally.{total_of}
 use Rattle.sp_fock_law.proofs.Vectors.{entries-alike, vector_of-entries}
 use Rattle.sp_fock_law.proofs.Totals.{total_of-totals}
@@ -40,7 +40,8 @@ use Rattle.sp_llt.proofs.Labels.{LabelFacts, label_facts}
 
 -- ---- a negative factor
 
-negate_times : (a b : Laurent) → times (negate a) b ≡ negate (times a b)
+-- the product with a negated factor is negated
+pub negate_times : (a b : Laurent) → times (negate a) b ≡ negate (times a b)
 negate_times a b = same_laurent (times (negate a) b) (negate (times a b)) (IsLaurent-times (negate a) b)
     (IsLaurent-negate (times a b)) by_power
   where

@@ -9,3 +9,4 @@ pub mod Search
 pub mod Reached
 pub mod Table
 pub mod Filled
+pub mod Adopting

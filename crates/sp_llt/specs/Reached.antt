@@ -1,5 +1,5 @@
 -- What a builder keeps of its row.
-use Rattle.std.specs.Prelude.{◌≡◌, ℕ, false, List, Option, None, Some}
+use Rattle.std.specs.Prelude.{◌≡◌, ℕ, false, List, None, Some}
 use Rattle.sp_defs.specs.Power.{FockVector, fock_vector}
 use Rattle.sp_defs.specs.Row.{regular_row}
 use Rattle.sp_core.specs.declared.piece.Key.{Key}

@@ -4,12 +4,15 @@
 //! partition from the earlier entries that it asks for, and [`entry_alone`] does both.
 #![tactic(auto)]
 
+mod adopt;
 mod alone;
 mod builder;
 mod ctx;
 mod entry;
+mod fault;
 mod law;
 mod refused;
+mod same;
 mod search;
 mod share;
 
@@ -17,6 +20,7 @@ pub use alone::entry_alone;
 pub use builder::Builder;
 pub use ctx::Ctx;
 pub use entry::Entry;
+pub use fault::AdoptFault;
 pub use law::rows_law;
 pub use refused::{FirstRefused, Refused, RowsFault, first_refused};
 pub use share::Share;

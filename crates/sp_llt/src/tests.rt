@@ -1,6 +1,7 @@
-ghost use Rattle.std.specs.Prelude.{◌≤◌, ◌<◌, ◌^◌};
+ghost use Rattle.std.specs.Prelude.{◌≡◌, ◌≤◌, ◌<◌, ◌^◌};
 
-use crate::{Ctx, Entry, Refused, entry_alone, rows_law};
+use crate::{AdoptFault, Ctx, Entry, Refused, entry_alone, rows_law};
+use sp_fock::Vector;
 use sp_partition::{DEGREE_LIMIT, Partition};
 use std::alloc::Global;
 use std::test::Fail;
@@ -115,5 +116,53 @@ fn rows_of_greater_degrees(rt: HostRuntime) -> Result<(), Fail> {
 #[test]
 fn the_empty_partition_has_a_row(rt: HostRuntime) -> Result<(), Fail> {
     assert_eq!(rt; text(rt.alloc(), 2, &[], 1)?.as_slice(), b"[-]".as_slice());
+    Ok(())
+}
+
+/// What a listed row with no shares is taken as.
+fn adopted(alloc: Global, ctx: &Ctx, k: usize, row: &Vector) -> Result<Vec<u8>, Fail>
+    requires { row.now.degree ≡ ctx.now.degree }
+{
+    let mut out = Vec::new(alloc);
+    if k >= ctx.regulars().len() {
+        return Ok(out);
+    }
+    match Entry::adopt(alloc, ctx, k, &[], row, &[]) {
+        Ok(entry) => put_row(alloc, &entry, &mut out)?,
+        Err(AdoptFault::TooLarge) => out.extend_from_slice(b"too large")?,
+        Err(AdoptFault::Wrong) => out.extend_from_slice(b"wrong")?,
+        Err(AdoptFault::Memory) => out.extend_from_slice(b"memory")?,
+    }
+    Ok(out)
+}
+
+#[test]
+fn listed_rows(rt: HostRuntime) -> Result<(), Fail> {
+    let alloc = rt.alloc();
+    let five = Vector::one(alloc, &Partition::from_parts(&[5])?)?;
+    if five.degree() != 5 {
+        return Ok(());
+    }
+    // the ladder vector of (5) is the sum of the row and that of (3,2), which is not listed among the shares
+    let ctx = Ctx::open(alloc, 2, 5, 1_000_000)?;
+    assert_eq!(rt;
+        adopted(alloc, &ctx, 2, &five)?.as_slice(),
+        b"wrong".as_slice()
+    );
+    // its coefficient 2v is past the limit
+    let small = Ctx::open(alloc, 2, 5, 1)?;
+    assert_eq!(rt;
+        adopted(alloc, &small, 2, &five)?.as_slice(),
+        b"too large".as_slice()
+    );
+    // the row of (3,2) has no shares
+    if ctx.regulars().is_empty() {
+        return Ok(());
+    }
+    let first = entry_alone(alloc, &ctx, 0)?;
+    if let Ok(row) = first.row() {
+        let text = b"[3,2] + v[3,1^2] + v^2[2^2,1]".as_slice();
+        assert_eq!(rt; adopted(alloc, &ctx, 0, row)?.as_slice(), text);
+    }
     Ok(())
 }

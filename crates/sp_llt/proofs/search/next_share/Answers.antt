@@ -1,4 +1,4 @@
-use Rattle.std.proofs.Common.{◌≡◌, ◌-◌, ap, subst, arith, Err}
+use Rattle.std.proofs.Common.{◌≡◌, ◌-◌, ap, arith, Err}
 use Rattle.sp_laurent.specs.declared.fault.LaurentFault.TheVariants.{TooLarge}
 use Rattle.sp_llt.proofs.search.next_share.Goals as goal
 

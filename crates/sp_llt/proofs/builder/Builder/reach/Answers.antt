@@ -1,4 +1,4 @@
-use Rattle.std.proofs.Common.{◌≡◌, ℕ, ◌<◌, List, [], length, refl, sym, ◌∙◌, ap, subst, arith, Err, MatchOption}
+use Rattle.std.proofs.Common.{◌≡◌, ℕ, ◌<◌, List, length, refl, sym, ◌∙◌, ap, subst, arith, Err, MatchOption}
 use Rattle.std.specs.List.{AllByRecursion}
 use Rattle.sp_defs.specs.Partition.{partitions}
 use Rattle.sp_defs.specs.Power.{vector_of}

@@ -1,4 +1,4 @@
-use Rattle.std.proofs.Common.{◌≡◌, ℕ, ◌<◌, ◌≤◌, List, [], ◌∷◌, ◌++◌, refl, sym, ◌∙◌, ap, ap₂, subst, Err}
+use Rattle.std.proofs.Common.{ℕ, ◌<◌, ◌≤◌, List, [], ◌∷◌, ◌++◌, sym, ◌∙◌, ap, ap₂, subst, Err}
 use Rattle.std.specs.List.{AllByRecursion}
 use Rattle.sp_defs.specs.Partition.{IsPartitionOf}
 use Rattle.sp_defs.specs.Laurent.{Laurent}
@@ -8,7 +8,7 @@ use Rattle.sp_laurent.specs.Held.{power_limit}
 use Rattle.sp_core.specs.declared.piece.Key.{Key}
 use Rattle.sp_fock_law.specs.Tally.{TallyValue, subtracted, subtraction_weight, total_of}
 use Rattle.sp_llt.specs.Place.{label}
-use Rattle.sp_llt.proofs.Giving.{NextShare, next_share, product_fits}
+use Rattle.sp_llt.proofs.Giving.{next_share, product_fits}
 use Rattle.sp_llt.proofs.Tallies.{tally_step, past_totals, within_step, shares_step, totals_within}
 use Rattle.sp_llt.proofs.builder.Builder.take_off.Goals as goal
 

@@ -1,4 +1,4 @@
-use Rattle.std.proofs.Common.{◌≡◌, ℕ, List, reverse, sym, ◌∙◌, ap, subst, Option, None}
+use Rattle.std.proofs.Common.{ℕ, List, reverse, ◌∙◌, ap, Option}
 use Rattle.std.specs.List.{find}
 use Rattle.std.specs.Option.{option_map}
 use Rattle.sp_defs.specs.Power.{FockVector}

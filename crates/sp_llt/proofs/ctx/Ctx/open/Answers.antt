@@ -1,4 +1,3 @@
-use Rattle.std.proofs.Common.{◌∙◌, ap}
 use Rattle.sp_llt.specs.Place.{key_of}
 use Rattle.sp_llt.proofs.Places.{context_of}
 use Rattle.sp_llt.proofs.ctx.Ctx.open.Goals as goal
