@@ -1,5 +1,5 @@
 -- Moved beads: their number, their sum, their bounds, and the pairs that ascend.
-use Rattle.std.proofs.Common.{◌≡◌, ◌≢◌, ℕ, zero, suc, ◌+◌, ◌-◌, ◌*◌, ◌<◌, ◌≤◌, true, nat_lt, List, [], ◌∷◌, drop}
+use Rattle.std.proofs.Common.{◌≡◌, ◌≢◌, ℕ, suc, ◌+◌, ◌-◌, ◌*◌, ◌<◌, ◌≤◌, true, nat_lt, List, [], ◌∷◌, drop}
 use Rattle.std.proofs.Common.{length, slice_index, slice_set, get_or, ◌∙◌, ap, sum, count_by, arith}
 use Rattle.std.proofs.Common.{length-set, get_or-set_other, add-one, mul-le-mul}
 use Rattle.std.proofs.Math.Seq.{drop-cons}
@@ -25,13 +25,6 @@ beads_below xs h =
 -- So is the number at a place.
 pub bead_below : (xs : List ℕ) (i : ℕ) → AreBeads xs → i < length xs → slice_index xs i < 96
 bead_below xs i h lt = all_at (λ x. x < 96) xs i 0 (beads_below xs h) lt
-
--- An earlier number is greater.
-pub falls_between : (xs : List ℕ) (a b : ℕ) → Falls xs → a < b → b < length xs → slice_index xs b < slice_index xs a
-falls_between [] a b f lt within = absurd (omega arith)
-falls_between (x ∷ xs) a zero f lt within = absurd (omega arith)
-falls_between (x ∷ xs) zero (suc b) (low, f) lt within = all_at (λ c. c < x) xs b 0 low (omega arith)
-falls_between (x ∷ xs) (suc a) (suc b) (low, f) lt within = falls_between xs a b f (omega arith) (omega arith)
 
 -- ---- after a step
 

@@ -6,17 +6,15 @@ use Rattle.std.specs.List.{AllByRecursion}
 use Rattle.std.proofs.lemmas.List.Sums.{sum_by-cons}
 use Rattle.std.proofs.lemmas.Bool.Decides.{eqb_tells}
 use Rattle.sp_lists.proofs.Elements.{all_every}
-use Rattle.sp_lists.proofs.Places.{all_weaken}
 use Rattle.sp_lists.proofs.Counts.{sum-filter}
 use Rattle.sp_abacus_law.specs.Beads.{down, Falls}
 use Rattle.sp_abacus_law.proofs.Falling.{down-falls, falls-filter}
 use Rattle.sp_abacus_law.proofs.Runners.{down-range}
 use Rattle.sp_abacus_law.proofs.Bounds.{filter-same}
 use Rattle.std.proofs.Common.{ne_eqb}
-use Rattle.sp_lists.proofs.Sums.{sum-ones}
 use Rattle.sp_module_defs.specs.Jantzen.{occurs, is_distinct, descending}
 use Rattle.std.proofs.lemmas.Bool.{and_parts}
-use Rattle.sp_lists.proofs.Sums.{sum-alike, sum-plus, sum-zeros}
+use Rattle.sp_lists.proofs.Sums.{all_below_sum, sum-alike, sum-ones, sum-plus, sum-zeros}
 use Rattle.std.proofs.lemmas.Bool.{not-true}
 
 -- Each number is below n.
@@ -29,12 +27,6 @@ found_below xs n = filter (occurs xs) (down n)
 
 -- ---- where the walk may begin
 
-below_sum : (xs : List ℕ) → AllBelow (sum xs + 1) xs
-below_sum [] = tt
-below_sum (x ∷ xs) =
-    let e = sum_by-cons (λ y. y) x xs in
-    (omega arith, all_weaken (λ y. y < sum xs + 1) (λ y. y < sum (x ∷ xs) + 1) xs (λ y lt. omega arith) (below_sum xs))
-
 none_above : (xs : List ℕ) (n b : ℕ) → AllBelow n xs → n ≤ b → occurs xs b ≡ false
 none_above [] n b h le = refl
 none_above (x ∷ xs) n b (h, hs) le = ap₂ (λ v w. v || w) (ne_eqb x b (λ same. omega arith)) (none_above xs n b hs le)
@@ -43,7 +35,7 @@ none_above (x ∷ xs) n b (h, hs) le = ap₂ (λ v w. v || w) (ne_eqb x b (λ sa
 pub descending-below : (xs : List ℕ) (n : ℕ) → AllBelow n xs → found_below xs n ≡ descending xs
 unfolding descending found_below
 descending-below xs n h =
-    filter-same (occurs xs) n (sum xs + 1) (λ b le lt. none_above xs (sum xs + 1) b (below_sum xs) le)
+    filter-same (occurs xs) n (sum xs + 1) (λ b le lt. none_above xs (sum xs + 1) b (all_below_sum xs) le)
     (λ b le lt. none_above xs n b h le)
     ∙ ap (filter (occurs xs)) (sym (down-range (sum xs + 1)))
 
@@ -124,9 +116,9 @@ sum_occurring f (x ∷ xs) n d (h, hs) =
 pub sum-descending : (f : ℕ → ℕ) (xs : List ℕ) → is_distinct xs ≡ true → sum_by f (descending xs) ≡ sum_by f xs
 unfolding found_below
 sum-descending f xs d =
-    ap (sum_by f) (sym (descending-below xs (sum xs + 1) (below_sum xs)))
+    ap (sum_by f) (sym (descending-below xs (sum xs + 1) (all_below_sum xs)))
     ∙ sum-filter (occurs xs) f (down (sum xs + 1))
-    ∙ sum_occurring f xs (sum xs + 1) d (below_sum xs)
+    ∙ sum_occurring f xs (sum xs + 1) d (all_below_sum xs)
 
 -- and are as many.
 pub length-descending : (xs : List ℕ) → is_distinct xs ≡ true → length (descending xs) ≡ length xs

@@ -9,7 +9,7 @@ use Rattle.std.specs.declared.cmp.Ordering.TheVariants.{Equal, Greater}
 use mathlib.Core.List.{reverse-cons}
 use Rattle.sp_defs.specs.Partition.{compare, Ascending, IsEarlier}
 use Rattle.sp_defs.specs.Laurent.{Laurent, one}
-use Rattle.sp_lists.proofs.Elements.{all_left, all_right, le_or_lt}
+use Rattle.sp_lists.proofs.Elements.{all_left, all_right, le_or_lt, reverse_all}
 use Rattle.sp_lists.proofs.Maps.{map-alike}
 use Rattle.sp_lists.proofs.Places.{all_at, all_weaken}
 use Rattle.sp_shapes.proofs.Order.{equal_self, later_than}
@@ -30,19 +30,13 @@ last_of (y ∷ ys) x (h, hs) =
     let rest = last_of ys x hs in
     (((all_right (IsEarlier y) ys (x ∷ []) h).0, rest.0), (all_left (IsEarlier y) ys (x ∷ []) h, rest.1))
 
-unreversed : (P : List ℕ → Type 0) (xs : List (List ℕ)) → AllByRecursion P (reverse xs) → AllByRecursion P xs
-unreversed P [] h = tt
-unreversed P (x ∷ xs) h =
-    let split = subst (AllByRecursion P) (reverse-cons x xs) h in
-    ((all_right P (reverse xs) (x ∷ []) split).0, unreversed P xs (all_left P (reverse xs) (x ∷ []) split))
-
 -- Partitions descend whose reverse ascends.
 pub descends : (xs : List (List ℕ)) → Ascending (reverse xs) → Descends xs
 descends [] h = tt
 descends (x ∷ xs) h =
     let rest = last_of (reverse xs) x (subst Ascending (reverse-cons x xs) h) in (
       all_weaken (λ y. IsEarlier y x) (λ y. compare x y ≡ Greater) xs (λ y e. later_than y x e)
-          (unreversed (λ y. IsEarlier y x) xs rest.0),
+          (reverse_all (λ y. IsEarlier y x) xs rest.0),
       descends xs rest.1,
     )
 

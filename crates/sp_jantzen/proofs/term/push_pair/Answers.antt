@@ -1,14 +1,14 @@
 use Rattle.std.proofs.Common.{◌≡◌, ◌++◌, ◌-◌, ◌∙◌, ap, arith, flat_map, slice_index}
 use Rattle.std.specs.List.{range_with_len}
+use Rattle.sp_lists.proofs.FlatMaps.{appended_step}
 use Rattle.sp_module_defs.specs.Jantzen.{term, terms_of_pair}
-use Rattle.sp_jantzen.proofs.Walks.{walk_step}
 use Rattle.sp_jantzen.proofs.term.push_pair.Goals as goal
 
 pub loop-steps-preserved : goal.loop-steps-preserved
 loop-steps-preserved c =
     c.in_ok-push_found.ensures
     ∙ ap (λ found. c.loop-steps.terms.items ++ found) c.term.ensures
-    ∙ walk_step (term c.args.e c.args.numbers.now c.args.to c.args.from) c.args.terms.now.items c.loop-steps.terms.items
+    ∙ appended_step (term c.args.e c.args.numbers.now c.args.to c.args.from) c.args.terms.now.items c.loop-steps.terms.items
     c.loop-steps.steps (omega arith) c.loop-steps.invariant
 
 pub returns : goal.returns

@@ -1,5 +1,5 @@
 use Rattle.std.proofs.Common.{arith}
-use Rattle.sp_jantzen.proofs.Moves.{falls_between}
+use Rattle.sp_abacus_law.proofs.Falling.{falls_between}
 use Rattle.sp_jantzen.proofs.term.step_value.Goals as goal
 
 pub overflow_sub-numbers : goal.overflow_sub-numbers

@@ -6,8 +6,9 @@ use Rattle.sp_defs.specs.Abacus.{beta}
 use Rattle.sp_lists.proofs.Places.{all_weaken}
 use Rattle.sp_partition.specs.Held.{IsHeld}
 use Rattle.sp_module_defs.specs.Jantzen.{Terms, terms_of_bead, jantzen_terms}
+use Rattle.sp_lists.proofs.FlatMaps.{appended_more}
 use Rattle.sp_jantzen.specs.Beads.{AreBeads}
-use Rattle.sp_jantzen.proofs.Walks.{walk_more, beta_beads}
+use Rattle.sp_jantzen.proofs.Walks.{beta_beads}
 use Rattle.sp_jantzen.proofs.Terms.{IsUnit, jantzen_units}
 use Rattle.sp_jantzen.proofs.term.terms.Goals as goal
 
@@ -23,7 +24,7 @@ pub loop-from-preserved : goal.loop-from-preserved
 loop-from-preserved c =
     c.in_ok-push_bead.ensures
     ∙ ap (λ xs. c.loop-from.terms.items ++ terms_of_bead c.args.e xs c.loop-from.from) c.as_slice.ensures.value
-    ∙ walk_more (terms_of_bead c.args.e c.beta-numbers.result.items) [] c.loop-from.terms.items 0
+    ∙ appended_more (terms_of_bead c.args.e c.beta-numbers.result.items) [] c.loop-from.terms.items 0
     c.loop-from.from c.loop-from.from (omega arith) c.loop-from.invariant
 
 -- All beads were taken.
