@@ -1,7 +1,7 @@
 -- Factorials and products of hook lengths.
 use Rattle.std.proofs.Common.{◌≡◌, ℕ, zero, suc, ◌+◌, ◌-◌, ◌*◌, ◌/◌, ◌^◌, ◌<◌, ◌≤◌, true, List, [], ◌∷◌}
 use Rattle.std.proofs.Common.{◌++◌, map, take}
-use Rattle.std.proofs.Common.{length, get_or, refl, sym, ◌∙◌, ap, subst, arith, mul-le-mul, lit<, mul_assoc}
+use Rattle.std.proofs.Common.{length, get_or, sym, ◌∙◌, ap, subst, arith, mul-le-mul, lit<, mul_assoc}
 use Rattle.std.specs.List.{AllByRecursion}
 use Rattle.std.proofs.lemmas.List.{take_more, map-append}
 use native.Mathlib.Nat.{div-div-eq-div-mul, div-one}
@@ -35,6 +35,7 @@ factorial-small n h =
     let whole : factorial (32 - n + n) ≡ factorial 32 = ap factorial count in
     omega arith
 
+-- The factorial of n is n times that of the number before.
 pub factorial-next : (n : ℕ) → 1 ≤ n → factorial (n - 1) * n ≡ factorial (n + 1 - 1)
 unfolding factorial
 factorial-next n h =
@@ -61,14 +62,12 @@ divided-next f xs i n d lt =
     ∙ ap product (map-append f (take i xs) (get_or xs i d ∷ []))
     ∙ product-snoc (map f (take i xs)) (f (get_or xs i d))))
 
+-- The nodes of a diagram are in the diagram.
 pub nodes_inside : (parts : List ℕ) → AllByRecursion (λ x. in_diagram parts x ≡ true) (nodes parts)
 nodes_inside parts =
     all_nodes (λ x. in_diagram parts x ≡ true) parts (λ r c hr hc h. in_node parts r c hr hc h)
 
+-- A number that is divided by no factor stays.
 pub nothing-divided : (n : ℕ) → n ≡ n / product []
 unfolding product
 nothing-divided n = sym (div-one n)
-
-pub map_twice : {X Y Z : Type 0} (f : X → Y) (g : Y → Z) (xs : List X) → map g (map f xs) ≡ map (λ x. g (f x)) xs
-map_twice f g [] = refl
-map_twice f g (x ∷ xs) = ap (λ ys. g (f x) ∷ ys) (map_twice f g xs)

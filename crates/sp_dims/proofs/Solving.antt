@@ -11,8 +11,7 @@ use Rattle.std.proofs.lemmas.Int.{ints}
 use Rattle.sp_defs.specs.Partition.{compare}
 use Rattle.sp_defs.specs.Laurent.{one, int_sum, value_at_one}
 use Rattle.sp_lists.proofs.Elements.{filter_append, all_append}
-use Rattle.sp_shapes.proofs.Order.{equal_self}
-use Rattle.sp_fock_law.proofs.Vectors.{earlier_than}
+use Rattle.sp_shapes.proofs.Order.{earlier_than, equal_self}
 use Rattle.sp_module_defs.specs.Agreement.{Cells}
 use Rattle.sp_module_defs.specs.Cells.{IsSquareUnitriangular}
 use Rattle.sp_module_defs.specs.Dims.{Dims, composed_dim, specht_dim, dim_weight}
@@ -59,6 +58,7 @@ composed-head d known lambda x rest xs own below =
 
 -- ---- the solution
 
+-- The dimensions of the simple modules of the columns, each from those before it.
 unfoldable pub solved : Cells → Dims → List (List ℕ) → List ℤ
 solved d known [] = []
 solved d known (lambda ∷ rest) =
@@ -118,6 +118,7 @@ only_solved d known (lambda ∷ rest) (x ∷ xs) (own, below, h) len (e, es) =
         alone (composed_dim d known lambda) x (pos (specht_dim lambda))
         (sym (composed-head d known lambda x rest xs own below) ∙ e)
 
+-- They solve the equations of an upper unitriangular matrix, and nothing else does.
 pub solution : (d : Cells) (columns : List (List ℕ)) → IsUpper d columns → IsSolution columns d (solved d [] columns)
 solution d columns h = record {
   solves = record { one_each = length-solved d [] columns; equations = solved_solves d [] columns h };
@@ -126,6 +127,7 @@ solution d columns h = record {
 
 -- ---- the first column that is too large
 
+-- The first column whose weight passes the limit, where the dimensions before it are known.
 unfoldable pub past : ℕ → Cells → Dims → List (List ℕ) → Option (List ℕ)
 past limit d known [] = None
 past limit d known (lambda ∷ rest) =
@@ -186,6 +188,7 @@ none_over : (columns : List (List ℕ)) → AllOver [] columns
 none_over [] = tt
 none_over (lambda ∷ rest) = (tt, none_over rest)
 
+-- It is the first column whose weight in the solution passes the limit.
 pub past-first_past : (limit : ℕ) (d : Cells) (columns : List (List ℕ)) → Descends columns →
     past limit d [] columns ≡ first_past limit columns d (solved d [] columns)
 unfolding first_past

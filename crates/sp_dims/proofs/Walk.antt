@@ -11,6 +11,7 @@ use Rattle.sp_module_defs.specs.Agreement.{Cells}
 use Rattle.sp_dims.specs.Equation.{next_dim, known_weight}
 use Rattle.sp_dims.proofs.Solving.{solved, past}
 
+-- No dimensions are known of no columns.
 pub zip-none : (cs : List (List ℕ)) → zip {K = List ℕ} {X = ℤ} cs [] ≡ []
 zip-none [] = refl
 zip-none (c ∷ cs) = refl
@@ -33,6 +34,7 @@ module _
   grown x =
       zip-snoc cs xs c x (omega arith) (subst (λ k. c ≡ get_or cs k c) (sym count) at)
 
+  -- The dimensions known so far with those still to come are the same after one column more.
   pub solved_step : (x : ℤ) (whole : List ℤ) → x ≡ next_dim d (zip cs xs) c →
       xs ++ solved d (zip cs xs) (drop i cs) ≡ whole →
       (xs ++ x ∷ []) ++ solved d (zip cs (xs ++ x ∷ [])) (drop (i + 1) cs) ≡ whole
@@ -45,6 +47,7 @@ module _
       ∙ sym (ap (solved d (zip cs xs)) (drop-here cs i c lt at)))
       ∙ is
 
+  -- A column that is not too large leaves the first column that is.
   pub past_step : (x : ℤ) (whole : Option (List ℕ)) → x ≡ next_dim d (zip cs xs) c →
       known_weight d (zip cs xs) c ≤ limit → past limit d (zip cs xs) (drop i cs) ≡ whole →
       past limit d (zip cs (xs ++ x ∷ [])) (drop (i + 1) cs) ≡ whole
@@ -57,6 +60,7 @@ module _
       (le-ltb limit (known_weight d (zip cs xs) c) le))
       ∙ is
 
+  -- A column that is too large is the first that is.
   pub past_here : limit < known_weight d (zip cs xs) c → past limit d (zip cs xs) (drop i cs) ≡ Some c
   unfolding past
   past_here heavy =
@@ -64,12 +68,14 @@ module _
       ∙ ap (λ b. cond b (Some c) (past limit d (zip cs xs ++ (c, next_dim d (zip cs xs) c) ∷ []) (drop (i + 1) cs)))
       (lt-ltb limit (known_weight d (zip cs xs) c) heavy)
 
+-- After the last column all dimensions are known.
 pub solved_done : (d : Cells) (cs : List (List ℕ)) (xs whole : List ℤ) (i : ℕ) → length cs ≤ i →
     xs ++ solved d (zip cs xs) (drop i cs) ≡ whole → xs ≡ whole
 unfolding solved
 solved_done d cs xs whole i le is =
     sym (append-nil xs) ∙ ap (λ ks. xs ++ solved d (zip cs xs) ks) (sym (drop_all i cs le)) ∙ is
 
+-- After the last column none is too large.
 pub past_done : (d : Cells) (limit : ℕ) (cs : List (List ℕ)) (xs : List ℤ) (i : ℕ) → length cs ≤ i →
     past limit d (zip cs xs) (drop i cs) ≡ None
 unfolding past

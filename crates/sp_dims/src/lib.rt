@@ -11,4 +11,6 @@ pub use simple::simple_dims;
 pub use specht::specht_dim;
 
 #[cfg(test)]
+mod simple_tests;
+#[cfg(test)]
 mod tests;
