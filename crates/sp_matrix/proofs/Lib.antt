@@ -4,6 +4,8 @@ pub mod Tables
 pub mod Passed
 pub mod Sparse
 pub mod Refusals
+pub mod WalkedColumns
 pub mod Triangular
+pub mod Whole
 pub mod Folding
 pub mod Lined

@@ -2,7 +2,6 @@
 use Rattle.std.proofs.Common.{◌≡◌, ◌≢◌, ℕ, zero, suc, ◌+◌, ◌-◌, ◌<◌, false, List, [], ◌∷◌, map, length}
 use Rattle.std.proofs.Common.{get_or, set, refl, sym, ◌∙◌, ap, subst, arith, Less, Equal, Greater, is_eq}
 use Rattle.std.proofs.Common.{inl, inr, Bor}
-use Rattle.std.specs.List.{AllZip}
 use Rattle.std.specs.Ordering.{ordering_reverse}
 use Rattle.std.proofs.lemmas.Bool.{cases_lt}
 use Rattle.std.proofs.lemmas.Cmp.{tied_itself}
@@ -13,6 +12,7 @@ use Rattle.sp_defs.specs.Partition.{compare, order, IsPartitionOf}
 use Rattle.sp_defs.specs.Laurent.{Laurent}
 use Rattle.sp_defs.specs.Power.{FockVector, vector_of}
 use Rattle.sp_lists.proofs.Places.{all_at}
+use Rattle.sp_lists.proofs.Zips.{zip_at, zip_map, zip_set}
 use Rattle.sp_shapes.proofs.Order.{same_lists, later_than}
 use Rattle.sp_partition.specs.OrderLaws.{order_total, order_one_degree}
 use Rattle.sp_fock.specs.Held.{IsHeld}
@@ -21,24 +21,6 @@ use Rattle.sp_fock_law.proofs.Places.{places_ascend, vector_of-at, vector_of-abs
 use Rattle.sp_module_defs.proofs.Places.{Descends, descends}
 use Rattle.sp_matrix.specs.Cursors.{ArePassed, Descend, IsAt, IsPassed}
 use Rattle.sp_matrix.specs.Walk.{vectors_of}
-use Rattle.sp_matrix.proofs.Folding.{zip_at}
-
--- ---- two lists, place by place
-
--- What holds place by place holds where a second element is replaced by one that it holds of.
-pub zip_set : {X Y : Type 0} (R : X → Y → Type 0) (xs : List X) (ys : List Y) (i : ℕ) (d : X) (y : Y) →
-    AllZip R xs ys → R (get_or xs i d) y → AllZip R xs (set ys i y)
-zip_set R [] [] i d y h r = tt
-zip_set R [] (b ∷ ys) i d y h r = absurd h
-zip_set R (a ∷ xs) [] i d y h r = absurd h
-zip_set R (a ∷ xs) (b ∷ ys) zero d y h r = (r, h.1)
-zip_set R (a ∷ xs) (b ∷ ys) (suc i) d y h r = (h.0, zip_set R xs ys i d y h.1 r)
-
--- What holds of each element and its image holds of a list and the list of the images, place by place.
-pub zip_map : {X Y : Type 0} (R : X → Y → Type 0) (f : X → Y) (xs : List X) → ((x : X) → R x (f x)) →
-    AllZip R xs (map f xs)
-zip_map R f [] h = tt
-zip_map R f (x ∷ xs) h = (h x, zip_map R f xs h)
 
 -- ---- the order of partitions
 

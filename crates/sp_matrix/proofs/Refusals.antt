@@ -14,6 +14,7 @@ use Rattle.sp_matrix.specs.Scope.{is_in, within}
 use Rattle.sp_matrix.specs.Walk.{row_of, vectors_of}
 use Rattle.sp_matrix.proofs.Backwards.{within_here}
 
+-- A refusal that an outcome tells names its column and its reason.
 pub told_refusal : (why : Refused) (x : List ℕ) →
     refused_as x (outcome_told (Err why)) ≡ Some (record { mu = x; why = why })
 told_refusal refused.TooLarge x = refl
@@ -24,6 +25,7 @@ module _ (e : ℕ) (s : Scope) (xs : List (List ℕ)) (k : ℕ) (x : List ℕ) (
   abbrev rest : List (List ℕ)
   rest = within e s (reverse (take (k - 1) xs))
 
+  -- The rows so far, with one row more, and those still to come are the same rows.
   pub rows_here : (n : ℕ) (list : List (Bor FockVector)) (row : Bor FockVector) → row.now ≡ row_of e n x →
       vectors_of (list ++ row ∷ []) ++ map (row_of e n) rest ≡
       vectors_of list ++ map (row_of e n) (within e s (reverse (take k xs)))
@@ -33,6 +35,7 @@ module _ (e : ℕ) (s : Scope) (xs : List (List ℕ)) (k : ℕ) (x : List ℕ) (
       ∙ ap (λ v. vectors_of list ++ (v ∷ map (row_of e n) rest)) row_is
       ∙ ap (λ ys. vectors_of list ++ map (row_of e n) ys) (sym (within_here e s xs k x some le at is))
 
+  -- The first refusal from the k-th column down is that of this column, or else that of those below.
   pub refused_here : (limit : ℕ) →
       refused_column e limit (within e s (reverse (take k xs))) ≡
       or_else (refused_as x (outcome e limit x)) (refused_column e limit rest)

@@ -6,11 +6,13 @@ use Rattle.sp_matrix.specs.declared.scope.Form.{Form}
 use Rattle.sp_matrix.specs.declared.scope.Form.TheVariants.{Polynomial, Constant}
 use Rattle.sp_matrix.specs.Scope.{shown}
 
+-- 0 shows as 0.
 pub shown_nought : (form : Form) → shown form [] ≡ []
 unfolding int_sum
 shown_nought Polynomial = refl
 shown_nought Constant = refl
 
+-- The images of one element more are those so far, and the image of this one.
 pub map_more : {X Y : Type 0} (f : X → Y) (xs : List X) (i : ℕ) (x : X) → i < length xs → x ≡ get_or xs i x →
     map f (take (i + 1) xs) ≡ map f (take i xs) ++ f x ∷ []
 map_more f xs i x lt at =

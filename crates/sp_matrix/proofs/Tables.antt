@@ -1,7 +1,7 @@
 -- Tables are grids, and the rows of the columns have their cells.
-use Rattle.std.proofs.Common.{◌≡◌, ℕ, Bool, true, false, cond, List, [], ◌∷◌, ◌++◌, map, length, reverse, filter}
-use Rattle.std.proofs.Common.{refl, sym, ◌∙◌, ap, subst}
-use Rattle.std.proofs.lemmas.List.{append-nil, length-map, reverse-append, reverse-reverse}
+use Rattle.std.proofs.Common.{◌≡◌, ℕ, Bool, true, List, map, length, reverse, filter}
+use Rattle.std.proofs.Common.{sym, ◌∙◌, ap, subst}
+use Rattle.std.proofs.lemmas.List.{length-map, reverse-reverse}
 use mathlib.Core.List.{map-map}
 use Rattle.std.specs.List.{AllByRecursion}
 use Rattle.std.specs.Ordering.{is_eq}
@@ -9,13 +9,13 @@ use Rattle.sp_defs.specs.Partition.{partitions, regulars, compare, Ascending, Is
 use Rattle.sp_defs.specs.Abacus.{core}
 use Rattle.sp_defs.specs.Power.{FockVector, vector_of}
 use Rattle.sp_defs.specs.Row.{regular_row}
-use Rattle.sp_lists.proofs.Elements.{all_filter, all_map, all_every, filter_append}
+use Rattle.sp_lists.proofs.Elements.{all_filter, all_map, all_every}
 use Rattle.sp_lists.proofs.Places.{all_weaken}
 use Rattle.sp_shapes.proofs.Listing.{all_partitions, partitions_ascend, all_regulars, regulars_ascend, Ascending-filter}
 use Rattle.sp_fock_law.specs.Grid.{IsHeading, IsGrid}
 use Rattle.sp_fock_law.proofs.Vectors.{vector_of-entries}
 use Rattle.sp_lists.proofs.Elements.{all_reverse}
-use Rattle.sp_lists.proofs.Maps.{map-alike}
+use Rattle.sp_lists.proofs.Maps.{filter-reverse, map-alike}
 use Rattle.sp_module_defs.specs.Agreement.{Cells}
 use Rattle.sp_matrix.specs.declared.scope.Scope.{Scope}
 use Rattle.sp_matrix.specs.declared.scope.Scope.TheVariants.{All, Block}
@@ -26,20 +26,7 @@ use Rattle.sp_matrix.specs.Walk.{line_cells, row_of}
 
 -- ---- headings
 
-filter_reverse : {X : Type 0} (t : X → Bool) (xs : List X) → filter t (reverse xs) ≡ reverse (filter t xs)
-filter_reverse t [] = refl
-filter_reverse t (x ∷ xs) =
-    ap (filter t) (reverse-append (x ∷ []) xs)
-    ∙ filter_append t (reverse xs) (x ∷ [])
-    ∙ ap (λ ys. ys ++ filter t (x ∷ [])) (filter_reverse t xs)
-    ∙ last (t x)
-  where
-    last : (b : Bool) →
-        reverse (filter t xs) ++ cond b (x ∷ []) [] ≡ reverse (cond b (x ∷ filter t xs) (filter t xs))
-    last true = sym (reverse-append (x ∷ []) (filter t xs))
-    last false = append-nil (reverse (filter t xs))
-
--- the partitions of an ascending list that are within a scope, descending
+-- The partitions of an ascending list that are within a scope, descending
 pub heading : (e n : ℕ) (s : Scope) (xs : List (List ℕ)) → AllByRecursion (IsPartitionOf n) xs → Ascending xs →
     IsHeading n (within e s (reverse xs))
 unfolding within
@@ -53,13 +40,14 @@ heading e n (Block kappa) xs all up = record {
       (all_weaken (IsPartitionOf n) (λ x. t x ≡ true → IsPartitionOf n x) (reverse xs) (λ x h is. h)
       (all_reverse (IsPartitionOf n) xs all));
   descending =
-      subst Ascending (sym (ap reverse (filter_reverse t xs) ∙ reverse-reverse (filter t xs)))
+      subst Ascending (sym (ap reverse (filter-reverse t xs) ∙ reverse-reverse (filter t xs)))
       (Ascending-filter t xs up);
 }
   where
     t : List ℕ → Bool
     t x = is_eq (compare (core e x) kappa)
 
+-- The columns within a scope are a heading.
 pub columns_heading : (e n : ℕ) (s : Scope) → IsHeading n (within e s (columns_of e n))
 columns_heading e n s =
     heading e n s (regulars e n)
@@ -67,11 +55,13 @@ columns_heading e n s =
     (λ x h. record { partition = h.partition; total = h.total }) (all_regulars e n))
     (regulars_ascend e n)
 
+-- The lines within a scope are a heading.
 pub lines_heading : (e n : ℕ) (s : Scope) → IsHeading n (within e s (lines_of n))
 lines_heading e n s = heading e n s (partitions n) (all_partitions n) (partitions_ascend n)
 
 -- ---- tables
 
+-- A table with headings is a grid.
 pub is_grid : (n : ℕ) (columns lines : List (List ℕ)) (d : Cells) → IsHeading n columns → IsHeading n lines →
     IsGrid (table n columns lines d)
 is_grid n columns lines d hc hl = record {
@@ -84,6 +74,7 @@ is_grid n columns lines d hc hl = record {
       (λ lambda. length-map columns (d lambda)));
 }
 
+-- The table of a scope is a grid.
 pub table_is_grid : (e n : ℕ) (s : Scope) (form : Form) → IsGrid (table_of e n s form)
 unfolding table_of
 table_is_grid e n s form =
@@ -100,6 +91,7 @@ line_is e n form columns lambda h =
     (all_every (λ mu. shown form (vector_of (row_of e n mu).entries lambda) ≡ cell_of e form lambda mu) columns
     (λ mu. ap (shown form) (vector_of-entries n (regular_row e mu) lambda h)))
 
+-- The rows of the columns, line by line, are the cells of the table.
 pub cells_are : (e n : ℕ) (s : Scope) (form : Form) →
     map (line_cells form (map (row_of e n) (within e s (columns_of e n)))) (within e s (lines_of n)) ≡
     (table_of e n s form).cells

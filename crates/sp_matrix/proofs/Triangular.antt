@@ -1,7 +1,6 @@
 -- Tables have 1 at each column's own line and 0 above it.
 use Rattle.std.proofs.Common.{◌≡◌, ◌≢◌, ℕ, suc, ◌+◌, ◌≤◌, Bool, true, false, cond, not, List, [], ◌∷◌}
-use Rattle.std.proofs.Common.{map, reverse, get_or, nat_eq, refl, sym, ◌∙◌, ap, subst, arith, ◌⊎◌, inl, inr}
-use Rattle.std.proofs.lemmas.List.{reverse-append}
+use Rattle.std.proofs.Common.{map, reverse, get_or, nat_eq, refl, sym, ◌∙◌, ap, arith, ◌⊎◌, inl, inr}
 use Rattle.std.specs.List.{AllByRecursion}
 use Rattle.std.specs.Ordering.{is_eq}
 use Rattle.std.specs.Cmp.Lexicographic.{pointwise}
@@ -11,15 +10,14 @@ use Rattle.sp_defs.specs.Abacus.{core}
 use Rattle.sp_defs.specs.Laurent.{one, int_sum}
 use Rattle.sp_defs.specs.Row.{regular_row}
 use Rattle.sp_defs.specs.Statements.{IsLabel}
-use Rattle.sp_lists.proofs.Elements.{nil_or_not, all_filter}
+use Rattle.sp_lists.proofs.Elements.{nil_or_not, all_filter, all_reverse}
 use Rattle.sp_lists.proofs.Places.{all_weaken}
-use Rattle.sp_shapes.proofs.Listing.{Occurs, occurs_left, occurs_right, occurs_filter, each_partition, each_regular}
-use Rattle.sp_shapes.proofs.Listing.{all_partitions, all_regulars}
+use Rattle.sp_lists.proofs.Occurrence.{Occurs, occurs_filter, occurs_reverse}
+use Rattle.sp_shapes.proofs.Listing.{all_partitions, all_regulars, each_partition, each_regular}
 use Rattle.sp_shapes.proofs.Order.{equal_self}
 use Rattle.sp_partition.specs.OrderLaws.{equal_lists, lists_equal}
 use Rattle.sp_row_law.proofs.RowsLaw.{rows_law}
 use Rattle.sp_outcome_law.proofs.Earlier.{row_earlier}
-use Rattle.sp_lists.proofs.Elements.{all_reverse}
 use Rattle.sp_module_defs.specs.Agreement.{Cells}
 use Rattle.sp_module_defs.specs.Cells.{place, cell_at}
 use Rattle.sp_module_defs.specs.Cells.{IsSquareUnitriangular}
@@ -37,6 +35,7 @@ use Rattle.sp_matrix.proofs.Shown.{shown_nought}
 differs : (x y : List ℕ) (b : Bool) → pointwise nat_eq y x ≡ b → x ≡ y → b ≡ true
 differs x y b e same = sym e ∙ lists_equal y x (sym same)
 
+-- In the list of images the place of an element has its image.
 pub found : {Y : Type 0} (f : List ℕ → Y) (d : Y) (x : List ℕ) (xs : List (List ℕ)) → Occurs x xs →
     get_or (map f xs) (place xs x) d ≡ f x
 unfolding place
@@ -53,6 +52,7 @@ found f d x (y ∷ ys) o = tested (pointwise nat_eq y x) refl o (λ later. found
         next : 1 + place ys x ≡ suc (place ys x)
         next = omega arith
 
+-- The cell of a table at a line and a column that it has is that of the function.
 pub cell_found : (n : ℕ) (columns lines : List (List ℕ)) (d : Cells) (lambda mu : List ℕ) → Occurs lambda lines →
     Occurs mu columns → cell_at (table n columns lines d) lambda mu ≡ d lambda mu
 unfolding cell_at
@@ -61,14 +61,6 @@ cell_found n columns lines d lambda mu l m =
     ∙ found (d lambda) [] mu columns m
 
 -- ---- what is within a scope
-
-pub occurs_reverse : {X : Type 0} (x : X) (xs : List X) → Occurs x xs → Occurs x (reverse xs)
-occurs_reverse x [] o = absurd o
-occurs_reverse x (y ∷ ys) (inl same) =
-    subst (Occurs x) (sym (reverse-append (y ∷ []) ys)) (occurs_right x (reverse ys) (y ∷ []) (inl same))
-occurs_reverse x (y ∷ ys) (inr o) =
-    subst (Occurs x) (sym (reverse-append (y ∷ []) ys))
-    (occurs_left x (reverse ys) (y ∷ []) (occurs_reverse x ys o))
 
 occurs_within : (e : ℕ) (s : Scope) (x : List ℕ) (xs : List (List ℕ)) → is_in e s x ≡ true → Occurs x xs →
     Occurs x (within e s (reverse xs))
@@ -155,6 +147,7 @@ module _ (e n : ℕ) (two : 2 ≤ e) (s : Scope) (form : Form) where
   IsAbove xs mu =
       AllByRecursion (λ lambda. compare lambda mu ≡ Greater → cell_at (table_of e n s form) lambda mu ≡ []) xs
 
+  -- A table is unitriangular.
   pub triangular : IsUnitriangular (table_of e n s form)
   unfolding table_of
   triangular = record {
@@ -166,6 +159,7 @@ module _ (e n : ℕ) (two : 2 ≤ e) (s : Scope) (form : Form) where
         (λ lambda l. above_is lambda mu l h) all_lines) all_columns;
   }
 
+  -- So is the square of its columns.
   pub square : IsSquareUnitriangular columns (cell_at (table_of e n s form))
   square = record {
     own = all_weaken IsColumn (λ mu. cell_at (table_of e n s form) mu mu ≡ one) columns own_is all_columns;

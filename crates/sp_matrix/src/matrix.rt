@@ -25,6 +25,7 @@ use std::sync::Arc;
 /// descending.
 ///
 /// `Refused` where a column has no row, with the greatest such column.
+#[tactic(auto, unfolding(crate::specs::Scope::within, crate::specs::Scope::table_of))]
 pub fn crystal(alloc: Global, ctx: &Ctx, rows: &[Arc<Entry>]) -> Result<Grid, RowsFault>
     requires { IsFilled ctx.now rows.now }
     ensures grid { IfOk result (λ grid. grid ≡ matrix ctx.now.e ctx.now.degree) }
@@ -41,6 +42,7 @@ pub fn crystal(alloc: Global, ctx: &Ctx, rows: &[Arc<Entry>]) -> Result<Grid, Ro
 /// The matrix of the values of the coefficients at v = 1, which are constants.
 ///
 /// `Refused` where a column has no row, with the greatest such column.
+#[tactic(auto, unfolding(crate::specs::Scope::within, crate::specs::Scope::table_of))]
 pub fn decomposition(alloc: Global, ctx: &Ctx, rows: &[Arc<Entry>]) -> Result<Grid, RowsFault>
     requires { IsFilled ctx.now rows.now }
     ensures grid { IfOk result (λ grid. grid ≡ decomposition_of ctx.now.e ctx.now.degree) }
@@ -57,6 +59,7 @@ pub fn decomposition(alloc: Global, ctx: &Ctx, rows: &[Arc<Entry>]) -> Result<Gr
 /// The part of the decomposition matrix with the lines and the columns whose core is this one.
 ///
 /// `Refused` where one of these columns has no row, with the greatest such column.
+#[tactic(auto, unfolding(crate::specs::Scope::within, crate::specs::Scope::table_of))]
 pub fn block(
     alloc: Global,
     ctx: &Ctx,

@@ -1,12 +1,15 @@
 //! Worked matrices.
-ghost use Rattle.std.specs.Prelude.{◌≤◌, ◌<◌, ◌^◌};
+ghost use Rattle.std.specs.Prelude.{◌≡◌, ◌≤◌, ◌<◌, ◌^◌, IfOk, length, vec_len};
+ghost use Rattle.sp_llt.specs.Filled.{IsFilled};
+ghost use Rattle.sp_matrix.specs.Agreements.{HasAll};
 
 use crate::{Agreement, CompareFault, block, compare, compare_alone, crystal, decomposition};
 use sp_fock::Grid;
-use sp_llt::{Ctx, Refused, RowsFault};
+use sp_laurent::Laurent;
+use sp_llt::{Ctx, Entry, Refused, RowsFault, entry_alone};
 use sp_partition::Partition;
-use sp_pool::fill_alone;
-use std::alloc::Global;
+use std::alloc::{AllocError, Global};
+use std::sync::Arc;
 use std::test::Fail;
 use std::thread::Threads;
 
@@ -18,6 +21,18 @@ enum Kind {
     Block(Partition),
 }
 
+/// The entries of all ranks, ascending, each made by itself.
+fn entries(alloc: Global, ctx: &Ctx) -> Result<Vec<Arc<Entry>>, AllocError>
+    ensures { IfOk result (λ rows. IsFilled ctx.now rows.items) }
+{
+    let mut rows = Vec::new(alloc);
+    for k in 0..ctx.regulars().len() {
+        let entry = entry_alone(alloc, ctx, k)?;
+        rows.push(Arc::new(alloc, entry)?)?;
+    }
+    Ok(rows)
+}
+
 /// The matrix as text, line by line, or the column that refused it.
 fn text(alloc: Global, kind: Kind, e: u8, degree: u8, limit: u128) -> Result<Vec<u8>, Fail>
     requires e_least { 2 ≤ e }
@@ -27,7 +42,7 @@ fn text(alloc: Global, kind: Kind, e: u8, degree: u8, limit: u128) -> Result<Vec
     requires most { limit < 2 ^ 127 }
 {
     let ctx = Ctx::open(alloc, e, degree, limit)?;
-    let rows = fill_alone(alloc, &ctx)?;
+    let rows = entries(alloc, &ctx)?;
     let made = match kind {
         Kind::Crystal => crystal(alloc, &ctx, &rows),
         Kind::Decomposition => decomposition(alloc, &ctx, &rows),
@@ -168,7 +183,7 @@ fn compared(
     requires most { limit < 2 ^ 127 }
 {
     let ctx = Ctx::open(alloc, e, degree, 1_000_000)?;
-    let rows = fill_alone(alloc, &ctx)?;
+    let rows = entries(alloc, &ctx)?;
     let mut out = Vec::new(alloc);
     match kind {
         Kind::Crystal => {
@@ -213,6 +228,63 @@ fn derivatives_at_one_are_jantzen_sums(rt: HostRuntime) -> Result<(), Fail> {
     assert_eq!(rt;
         compared(&rt, rt.alloc(), Kind::Decomposition, 2, 4, 1_000)?.as_slice(),
         one
+    );
+    Ok(())
+}
+
+// A power of v, or 0.
+fn row(alloc: Global, cells: &[Option<u8>]) -> Result<Vec<Laurent>, Fail>
+    ensures { IfOk result (λ row. vec_len row ≡ length cells.now) }
+{
+    let mut row = Vec::new(alloc);
+    for cell in cells {
+        match cell {
+            Some(power) => row.push(Laurent::monomial(alloc, 1, i32::from(*power))?)?,
+            None => row.push(Laurent::zero(alloc))?,
+        }
+    }
+    Ok(row)
+}
+
+/// A table of degree 3 that isn't the matrix for e = 2, which has 0 at 2,1 and v at 1^3.
+fn no_matrix(alloc: Global) -> Result<Grid, Fail>
+    ensures { IfOk result (HasAll 2) }
+{
+    let columns = vec![in alloc;
+        Partition::from_parts(&[3])?,
+        Partition::from_parts(&[2, 1])?,
+    ]?;
+    let lines = vec![in alloc;
+        Partition::from_parts(&[3])?,
+        Partition::from_parts(&[2, 1])?,
+        Partition::from_parts(&[1, 1, 1])?,
+    ]?;
+    let cells = vec![in alloc;
+        row(alloc, &[Some(0), None])?,
+        row(alloc, &[Some(1), Some(0)])?,
+        row(alloc, &[Some(2), None])?,
+    ]?;
+    Ok(Grid::build(alloc, 3, columns, lines, cells)?)
+}
+
+#[test]
+fn the_greatest_line_that_differs(rt: HostRuntime) -> Result<(), Fail> {
+    let alloc = rt.alloc();
+    let grid = no_matrix(alloc)?;
+    // the derivatives at 2,1 and at 1^3 are 1 and 2, the Jantzen sums there 0 and 1
+    let differs = b"1 of 3, not 2,1".as_slice();
+    assert_eq!(rt;
+        told(alloc, compare_alone(alloc, 2, &grid, 2))?.as_slice(),
+        differs
+    );
+    assert_eq!(rt;
+        told(alloc, compare(&rt, alloc, 2, &grid, 2))?.as_slice(),
+        differs
+    );
+    let large = b"too large".as_slice();
+    assert_eq!(rt;
+        told(alloc, compare_alone(alloc, 2, &grid, 1))?.as_slice(),
+        large
     );
     Ok(())
 }

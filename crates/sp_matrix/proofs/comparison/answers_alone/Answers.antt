@@ -4,7 +4,7 @@ use Rattle.std.specs.List.{AllZip}
 use Rattle.sp_module_defs.specs.Cells.{cell_at}
 use Rattle.sp_matrix.specs.declared.comparison.CompareFault.{CompareFault}
 use Rattle.sp_matrix.specs.Agreements.{LineIs}
-use Rattle.sp_matrix.proofs.Folding.{zip_more}
+use Rattle.sp_lists.proofs.Zips.{zip_more}
 use Rattle.sp_matrix.proofs.comparison.answers_alone.Goals as goal
 
 pub loop-p-preserved : goal.loop-p-preserved

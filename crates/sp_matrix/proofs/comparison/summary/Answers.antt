@@ -11,7 +11,8 @@ use Rattle.sp_module_defs.specs.Cells.{cell_at}
 use Rattle.sp_matrix.specs.declared.comparison.CompareFault.{CompareFault}
 use Rattle.sp_matrix.specs.declared.comparison.CompareFault.TheVariants as fault
 use Rattle.sp_matrix.specs.Agreements.{is_past, LineIs}
-use Rattle.sp_matrix.proofs.Folding.{zip_at, none_more, count_more, find_more}
+use Rattle.sp_lists.proofs.Zips.{zip_at}
+use Rattle.sp_matrix.proofs.Folding.{none_more, count_more, find_more}
 use Rattle.sp_matrix.proofs.comparison.summary.Goals as goal
 
 abbrev weight_past : ℕ → ℕ → Cells → List ℕ → Bool

@@ -1,9 +1,10 @@
 use Rattle.std.proofs.Common.{◌<◌, ◌≤◌, ◌&&◌, [], length, get_or, sym, ◌∙◌, ap, ap₂, subst, Ok, Err}
 use Rattle.std.proofs.lemmas.List.{take_all}
+use Rattle.std.proofs.lemmas.List.Folds.{list_all_more}
 use Rattle.std.specs.List.{AllByRecursion, list_all, list_any}
 use Rattle.sp_module_defs.specs.Cells.{cell_at}
 use Rattle.sp_matrix.specs.declared.line.Term.{Term}
-use Rattle.sp_matrix.proofs.Folding.{all_more, none_more}
+use Rattle.sp_matrix.proofs.Folding.{none_more}
 use Rattle.sp_matrix.proofs.Lined.{line_place, line_found, terms_placed, column_is, fault_is, agrees_is, past_is}
 use Rattle.sp_matrix.proofs.Lined.{agrees_at, past_at, ColumnIs}
 use Rattle.sp_matrix.proofs.line.line_agrees.Goals as goal
@@ -54,7 +55,7 @@ loop-column-preserved c =
     record {
       agrees =
           ap₂ (λ a b. a && b) c.loop-column.invariant.agrees here.1
-          ∙ sym (all_more (agrees_at c.args.e d p) g.columns j [] lt);
+          ∙ sym (list_all_more (agrees_at c.args.e d p) g.columns j [] lt);
       within = none_more (past_at c.args.e c.args.limit d p) g.columns j [] lt c.loop-column.invariant.within here.0;
     }
 

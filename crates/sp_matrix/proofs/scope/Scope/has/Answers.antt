@@ -2,7 +2,7 @@ use Rattle.std.proofs.Common.{sym, ◌∙◌, ap}
 use Rattle.std.specs.Ordering.{is_eq}
 use Rattle.sp_defs.specs.Partition.{compare}
 use Rattle.sp_matrix.specs.Scope.{is_in}
-use Rattle.sp_matrix.proofs.Backwards.{same_equality}
+use Rattle.sp_lists.proofs.Comparing.{same_equality}
 use Rattle.sp_matrix.proofs.scope.Scope.has.Goals as goal
 
 pub returns-in-Block : goal.returns-in-Block
