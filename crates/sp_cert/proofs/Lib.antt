@@ -1,0 +1,5 @@
+pub mod Blocks
+pub mod Ranking
+pub mod Listed
+pub mod Stepping
+pub mod Small

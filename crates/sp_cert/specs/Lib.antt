@@ -1,0 +1,4 @@
+pub mod Order
+pub mod Rules
+pub mod Verdict
+pub mod Checked
