@@ -43,7 +43,7 @@ impl From<AllocError> for Stop {
 }
 
 /// The place of the first newline.
-fn newline_in(bytes: &[u8]) -> Option<usize>
+pub(crate) fn newline_in(bytes: &[u8]) -> Option<usize>
     ensures { result ≡ position (λ b. b == NEWLINE) bytes.now }
 {
     bytes.iter().position(|byte| *byte == NEWLINE)

@@ -1,7 +1,7 @@
 ghost use Rattle.std.specs.Prelude.{◌++◌, [], ◌∷◌, codes};
 ghost use Rattle.sp_stream.specs.Transcript.{Rules};
 
-use crate::{Answers, Status, deliver, serve};
+use crate::{Answers, Status, Summary, deliver, serve, summarize};
 use sp_base::{MemSink, MemSource};
 use std::alloc::{AllocError, Global};
 use std::test::Fail;
@@ -121,5 +121,20 @@ fn a_text_is_delivered_whole(rt: HostRuntime) -> Result<(), Fail> {
     assert!(rt; deliver(&mut sink, b"abcdefg").is_ok());
     assert!(rt; deliver(&mut sink, b"hi").is_err());
     assert!(rt; sink.bytes() == "abcdefgh".as_bytes());
+    Ok(())
+}
+
+#[test]
+fn answers_are_summed_up(rt: HostRuntime) -> Result<(), Fail> {
+    let summary = summarize(rt.alloc(), b"a\nerror x\nan error \nb", &mut Echo)?;
+    // the bytes of a, error x, an error and b with a newline each, and of bye
+    assert_eq!(rt;
+        summary,
+        Summary {
+            errors: 1,
+            bytes: 25,
+            sum: 2086,
+        }
+    );
     Ok(())
 }
