@@ -1,7 +1,7 @@
 // Many threads, who make the rows of a degree and hold matrices against their Jantzen sums. A trait's method can start
 // no threads by a handle that its type keeps, so the calls that do are closures of the caller's.
 ghost use Rattle.std.specs.Prelude.{◌≡◌, ℕ, IfOk};
-ghost use Rattle.sp_pool.specs.Filled.{IsFilled};
+ghost use Rattle.sp_llt.specs.Filled.{IsFilled};
 ghost use Rattle.sp_session.specs.Crew.{Compares, MayCompare};
 
 use crate::fillers::Filler;
