@@ -3,7 +3,7 @@
 # Usage: bench/ladder.sh. Seconds are the least of five runs.
 set -u
 cd "$(dirname "$0")/.." || exit 1
-./specht examples/first.txt >/dev/null || exit 1
+./specht_one examples/first.txt >/dev/null || exit 1
 binary=crates/specht_one/out/specht_one
 work=$(mktemp -d)
 trap 'rm -rf "$work"' EXIT

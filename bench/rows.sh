@@ -8,7 +8,7 @@ set -u
 top=$(cd "$(dirname "$0")/.." && pwd)
 source=${1:-}
 runs=${2:-11}
-"$top/specht" "$top/examples/first.txt" >/dev/null || exit 1
+"$top/specht_one" "$top/examples/first.txt" >/dev/null || exit 1
 binary=$top/crates/specht_one/out/specht_one
 work=$(mktemp -d)
 trap 'rm -rf "$work"' EXIT

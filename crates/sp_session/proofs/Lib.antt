@@ -1,4 +1,5 @@
 pub mod Naming
 pub mod Painted
 pub mod Pairs
+pub mod Runs
 pub mod SimpleDims

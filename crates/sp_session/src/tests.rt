@@ -311,10 +311,11 @@ fn ladder_vectors_are_refused_past_the_limit(rt: HostRuntime) -> Result<(), Fail
 
 #[test]
 fn other_words_are_refused(rt: HostRuntime) -> Result<(), Fail> {
-    let cases: [&'static [&'static str]; 4] = [
+    let cases: [&'static [&'static str]; 5] = [
         &["--limit", "007"],
         &["--"],
         &["frob"],
+        &["--help"],
         &["--workers", "2"],
     ];
     for words in cases {

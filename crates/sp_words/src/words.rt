@@ -45,6 +45,7 @@ pub fn read_words(alloc: Global, words: &[String], many: bool) -> Result<Words, 
         (other : Words) → Says many (map string_bytes words.now) other → other ≡ said) }
     ensures usage { result ≡ Err WordsFault.Usage →
         (said : Words) → ¬ Says many (map string_bytes words.now) said }
+    ensures workers { IfOk result (λ said. (1 ≤ said.workers) × (said.workers ≤ 16)) }
     ensures least { IfOk result (λ said. 1 ≤ said.limit) }
     ensures most { IfOk result (λ said. said.limit < 2 ^ 127) }
     ensures start { IfOk result (λ said. IfSome said.generate (λ start. start < 2 ^ 31)) }

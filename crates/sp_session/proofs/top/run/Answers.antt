@@ -1,0 +1,16 @@
+use Rattle.sp_session.proofs.Runs.{named_run, refused_run, unread_run}
+use Rattle.sp_session.proofs.top.run.Goals as goal
+
+pub returns-in-Ok : goal.returns-in-Ok
+returns-in-Ok g c =
+    let done = c.run_many.ensures in
+    named_run _ _ _ _ _ _ _ _ _ _ _ _ _ c.run_many.result c.in-Ok.said.limit c.in-Ok.ensures.limit
+    c.in-Ok.ensures.only done.used done.told done.read_faults done.write_faults done.complete
+
+pub returns-in-Err-Usage : goal.returns-in-Err-Usage
+returns-in-Err-Usage g c =
+    refused_run _ _ _ _ _ _ _ _ _ _ _
+    (c.in-Err-Usage.ensures.usage (let fault = c.in-Err-Usage.field-0-is in cc))
+
+pub returns : goal.returns
+returns g c = unread_run _ _ _ _ _ _ _ _ _ _ _
