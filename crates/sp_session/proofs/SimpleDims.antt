@@ -1,6 +1,6 @@
 -- The dimensions of the simple modules are those that solve the equations.
 use Rattle.std.proofs.Common.{◌≡◌, ℕ, List, [], ◌∷◌, ◌++◌, ℤ, refl, sym, ◌∙◌, ap, flat_map}
-use Rattle.std.proofs.Common.{◌≢◌, Result, Ok, Err, OnOk}
+use Rattle.std.proofs.Common.{◌≢◌, Result, Ok, Err, OnOk, Option, Some, None, subst}
 use Rattle.std.specs.List.{zip}
 use Rattle.sp_module_defs.specs.Cells.{IsSquareUnitriangular, cell_at}
 use Rattle.sp_dims.specs.declared.fault.DimsFault.{DimsFault}
@@ -12,9 +12,15 @@ use Rattle.sp_dims.proofs.Solving.{solved, solution, upper}
 use Rattle.sp_fock_law.specs.Grid.{GridValue, IsGrid}
 use Rattle.sp_module_defs.specs.Agreement.{Cells}
 use Rattle.sp_module_defs.specs.Dims.{Dims}
-use Rattle.sp_session.specs.Modules.{IsSolved, dims_after, dims_line, dims_or_refusal, grid_dims_text}
-use Rattle.sp_session.specs.Modules.{simple_dims_of}
+use Rattle.sp_llt.specs.declared.refused.FirstRefused.{FirstRefused}
+use Rattle.sp_matrix.specs.Matrix.{columns_of, matrix}
+use Rattle.sp_matrix.specs.Refusal.{refused_column}
+use Rattle.sp_matrix.proofs.Whole.{matrix_is_grid, matrix_is_triangular}
+use Rattle.sp_session.specs.Modules.{DimsLaw, IsSolved, dims_after, dims_line, dims_or_refusal, dims_text}
+use Rattle.sp_session.specs.Modules.{grid_dims_text, on_table, simple_dims_of}
+use Rattle.sp_session.specs.Tables.{crystal_table, unless_refused}
 use Rattle.sp_replies.specs.Refusals.{refusal_line}
+use Rattle.sp_replies.specs.declared.refusals.Refusal.{Refusal}
 use Rattle.sp_replies.specs.declared.refusals.Refusal.TheVariants.{LargeColumn}
 
 dims-solved : (d : Cells) (known : Dims) (columns : List (List ℕ)) → dims_after d known columns ≡ solved d known columns
@@ -55,6 +61,26 @@ module _ (limit : ℕ) (g : GridValue) (grid : IsGrid g) (triangular : IsSquareU
   pub past_text : (at : List ℕ) → IsPast limit g.columns (cell_at g) at →
       refusal_line (LargeColumn at) ≡ grid_dims_text limit g
   past_text at p = sym (told p.dims p.solution ∙ ap (λ o. dims_or_refusal o (zip g.columns p.dims)) p.first)
+
+-- The only table of a degree is its matrix, where no column is refused.
+table_is : (o : Option FirstRefused) (matrix grid : GridValue) → unless_refused o matrix ≡ Ok grid → grid ≡ matrix
+table_is None matrix grid h = cc
+table_is (Some refused) matrix grid h = cc
+
+-- What is told of a table that is there is the text of the only solution.
+told_of : (limit : ℕ) (table : Result GridValue Refusal) (grid : GridValue) → table ≡ Ok grid → IsGrid grid →
+    IsSquareUnitriangular grid.columns (cell_at grid) → IsSolved limit grid (on_table (grid_dims_text limit) table)
+told_of limit table grid h g u =
+    subst (λ t. IsSolved limit grid (on_table (grid_dims_text limit) t)) (sym h) (solved_text limit grid g u)
+
+-- Where no column is refused, the answer to `dims` tells the only solution.
+pub dims_solved : DimsLaw
+unfolding dims_text crystal_table
+dims_solved limit e n two grid h =
+    let is : grid ≡ matrix e n = table_is (refused_column e limit (columns_of e n)) (matrix e n) grid h in
+    told_of limit (unless_refused (refused_column e limit (columns_of e n)) (matrix e n)) grid h
+    (subst IsGrid (sym is) (matrix_is_grid e n))
+    (subst (λ (g : GridValue). IsSquareUnitriangular g.columns (cell_at g)) (sym is) (matrix_is_triangular e n two))
 
 -- A fault that is told is no want of memory.
 pub fault_told : {T E : Type 0} (r : Result T E) (fault : DimsFault) (new before text : List ℕ) →

@@ -1,5 +1,5 @@
 -- Answers on the Specht modules and the simple modules of a degree. This project's own.
-use Rattle.std.specs.Prelude.{◌≡◌, ℕ, List, [], ◌∷◌, ◌++◌, cond, flat_map, Option, Some, None, Result, Ok, Err, codes}
+use Rattle.std.specs.Prelude.{◌≡◌, ◌≤◌, ℕ, List, [], ◌∷◌, ◌++◌, cond, flat_map, Option, Some, None, Result, Ok, Err, codes}
 use Rattle.std.specs.Prelude.{ℤ, pos, ◌-ℤ◌}
 use Rattle.std.specs.List.{zip}
 use Rattle.std.specs.Fmt.{decimal, signed_decimal}
@@ -59,6 +59,13 @@ pub record IsSolved (limit : ℕ) (grid : GridValue) (text : List ℕ) : Type 0 
   pub solution : IsSolution grid.columns (cell_at grid) dims
   pub told : text ≡
       dims_or_refusal (first_past limit grid.columns (cell_at grid) dims) (zip grid.columns dims)
+
+-- Where no column is refused, the answer to `dims` tells the only solution.
+-- (Mathas, Iwahori-Hecke Algebras and Schur Algebras of the Symmetric Group, ch. 2)
+abbrev pub DimsLaw : Type 0
+DimsLaw =
+    (limit e n : ℕ) → 2 ≤ e → (grid : GridValue) → crystal_table limit e n ≡ Ok grid →
+    IsSolved limit grid (dims_text limit e n)
 
 -- The greatest line that doesn't agree, if there is one.
 abbrev pub differ_text : Option (List ℕ) → List ℕ
