@@ -28,7 +28,7 @@ module _ (w : Vector) (p : List ℕ) (ps : List (List ℕ)) (later : AllByRecurs
   stands_later : (t : List ℕ × Laurent) (ts : Entries) → entries_at ps w ≡ t ∷ ts → t.0 ≢ p
   stands_later t ts is same =
       let all = all_at (λ t. compare p t.0 ≡ Less) ps w
-          (all_weaken (IsEarlier p) (λ x. (w x ≢ []) → compare p x ≡ Less) ps (λ x less _. less) later) in
+      (all_weaken (IsEarlier p) (λ x. (w x ≢ []) → compare p x ≡ Less) ps (λ x less _. less) later) in
       let less = (subst (AllByRecursion (λ t. compare p t.0 ≡ Less)) is all).0 in
       let k : Less ≡ Equal = sym less ∙ ap (compare p) same ∙ equal_self p in
       cc
@@ -97,9 +97,9 @@ module _ (v : FockVector) (all : List (List ℕ)) (is : all ≡ partitions v.deg
       IsOpened v all (k + 1) (place + 1) (slots ++ sized t.1 ∷ [])
   opened_here t few taken same =
       let first : drop place v.entries ≡ t ∷ drop (place + 1) v.entries =
-          drop_more v.entries place t few ∙ ap (λ u. u ∷ drop (place + 1) v.entries) (sym taken) in
+      drop_more v.entries place t few ∙ ap (λ u. u ∷ drop (place + 1) v.entries) (sym taken) in
       let here = first_here (vector_of v.entries) p (drop (k + 1) all) later t (drop (place + 1) v.entries)
-          (sym first ∙ left_here) same in
+      (sym first ∙ left_here) same in
       record { slots_are = more (sized t.1) (ap sized here.0); within = omega (arith, few); left = here.1 }
 
   -- or without one.
@@ -107,7 +107,7 @@ module _ (v : FockVector) (all : List (List ℕ)) (is : all ≡ partitions v.deg
       IsOpened v all (k + 1) place (slots ++ nothing ∷ [])
   opened_none d other =
       let none = none_here (vector_of v.entries) p (drop (k + 1) all) later (drop place v.entries) left_here
-          (λ t ts first. subst (λ (u : List ℕ × Laurent). u.0 ≢ p) (sym (taken t ts first)) (other (some t ts first))) in
+      (λ t ts first. subst (λ (u : List ℕ × Laurent). u.0 ≢ p) (sym (taken t ts first)) (other (some t ts first))) in
       record { slots_are = more nothing (ap sized (sym none.0)); within = h.within; left = none.1 }
     where
       some : (t : List ℕ × Laurent) (ts : Entries) → drop place v.entries ≡ t ∷ ts → place < length v.entries

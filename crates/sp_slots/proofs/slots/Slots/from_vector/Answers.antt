@@ -59,31 +59,31 @@ loop-p-preserved c =
     let same = c.pairs-pairs.ensures.value in
     elim c.if-place-pairs.branch [
       | then-place-pairs+then-eq+in_ok-sized+in_ok-push w ↦
-        let t = w.index-pairs-place-then-eq.result in
-        let few : place < length v.entries = subst (λ (es : Entries). place < length es) same w.if-place-pairs.true in
-        let made = ap (λ (s : Vec Slot Global). s.items) w.slots-is ∙ w.in_ok-push.ensures.items
-            ∙ ap (λ x. slots ++ x ∷ []) w.in_ok-sized.ensures
-            ∙ ap (λ (u : List ℕ × Laurent). slots ++ sized u.1 ∷ []) (sym w.index-pairs-place-then-eq.is) in
-        let here = ap (λ (u : List ℕ × Laurent). u.0) (w.index-pairs-place-then-eq.is
-            ∙ get_or_default c.pairs-pairs.result.now place t w.index-pairs-place.result w.if-place-pairs.true)
-            ∙ same_text (get_or c.pairs-pairs.result.now place w.index-pairs-place.result).0 p w.if-eq.ensures in
-        subst (λ i. IsOpened v all (k + 1) i c.if-place-pairs.slots.items) (sym w.place-is)
-        (subst (IsOpened v all (k + 1) (place + 1)) (sym made)
-        (opened_here v all c.requires k place slots c.loop-p.invariant p lt c.p-item.is t few
-        (w.index-pairs-place-then-eq.is ∙ ap (λ (es : Entries). get_or es place t) same) here))
+          let t = w.index-pairs-place-then-eq.result in
+          let few : place < length v.entries = subst (λ (es : Entries). place < length es) same w.if-place-pairs.true in
+          let made = ap (λ (s : Vec Slot Global). s.items) w.slots-is ∙ w.in_ok-push.ensures.items
+          ∙ ap (λ x. slots ++ x ∷ []) w.in_ok-sized.ensures
+          ∙ ap (λ (u : List ℕ × Laurent). slots ++ sized u.1 ∷ []) (sym w.index-pairs-place-then-eq.is) in
+          let here = ap (λ (u : List ℕ × Laurent). u.0) (w.index-pairs-place-then-eq.is
+          ∙ get_or_default c.pairs-pairs.result.now place t w.index-pairs-place.result w.if-place-pairs.true)
+          ∙ same_text (get_or c.pairs-pairs.result.now place w.index-pairs-place.result).0 p w.if-eq.ensures in
+          subst (λ i. IsOpened v all (k + 1) i c.if-place-pairs.slots.items) (sym w.place-is)
+          (subst (IsOpened v all (k + 1) (place + 1)) (sym made)
+          (opened_here v all c.requires k place slots c.loop-p.invariant p lt c.p-item.is t few
+          (w.index-pairs-place-then-eq.is ∙ ap (λ (es : Entries). get_or es place t) same) here))
       | else-place-pairs+in_ok-push-2 w ↦
-        let made = ap (λ (s : Vec Slot Global). s.items) w.slots-is ∙ w.in_ok-push-2.ensures.items
-            ∙ ap (λ x. slots ++ x ∷ []) w.empty.ensures in
-        subst (λ i. IsOpened v all (k + 1) i c.if-place-pairs.slots.items) (sym w.place-is)
-        (subst (IsOpened v all (k + 1) place) (sym made)
-        (elim w.else-place-pairs.branch [
-          | else-place-pairs-via-then-place-pairs+else-eq u ↦
-            let t = u.index-pairs-place.result in
-            opened_none v all c.requires k place slots c.loop-p.invariant p lt c.p-item.is t
-            (λ _. subst (λ (es : Entries). (get_or es place t).0 ≢ p) same
-            (other_text (get_or c.pairs-pairs.result.now place t).0 p u.if-eq.ensures))
-          | else-place-pairs-via-else-place-pairs u ↦
-            opened_none v all c.requires k place slots c.loop-p.invariant p lt c.p-item.is ([], [])
-            (λ few. absurd (omega (arith, few, u.if-place-pairs.false, ap (λ (es : Entries). length es) same)))
-        ]))
+          let made = ap (λ (s : Vec Slot Global). s.items) w.slots-is ∙ w.in_ok-push-2.ensures.items
+          ∙ ap (λ x. slots ++ x ∷ []) w.empty.ensures in
+          subst (λ i. IsOpened v all (k + 1) i c.if-place-pairs.slots.items) (sym w.place-is)
+          (subst (IsOpened v all (k + 1) place) (sym made)
+          (elim w.else-place-pairs.branch [
+            | else-place-pairs-via-then-place-pairs+else-eq u ↦
+                let t = u.index-pairs-place.result in
+                opened_none v all c.requires k place slots c.loop-p.invariant p lt c.p-item.is t
+                (λ _. subst (λ (es : Entries). (get_or es place t).0 ≢ p) same
+                (other_text (get_or c.pairs-pairs.result.now place t).0 p u.if-eq.ensures))
+            | else-place-pairs-via-else-place-pairs u ↦
+                opened_none v all c.requires k place slots c.loop-p.invariant p lt c.p-item.is ([], [])
+                (λ few. absurd (omega (arith, few, u.if-place-pairs.false, ap (λ (es : Entries). length es) same)))
+          ]))
     ]
