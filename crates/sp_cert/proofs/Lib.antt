@@ -3,3 +3,5 @@ pub mod Ranking
 pub mod Listed
 pub mod Stepping
 pub mod Small
+pub mod Pieces
+pub mod Written

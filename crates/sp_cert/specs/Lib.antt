@@ -2,3 +2,4 @@ pub mod Order
 pub mod Rules
 pub mod Verdict
 pub mod Checked
+pub mod Texts

@@ -4,10 +4,13 @@
 mod certificate;
 mod checking;
 mod fault;
+mod lines;
+mod writing;
 
 pub use certificate::{Certificate, Column};
 pub use checking::check;
 pub use fault::CertFault;
+pub use writing::write;
 
 #[cfg(test)]
 mod tests;

@@ -2,11 +2,14 @@ ghost use Rattle.std.specs.Prelude.{◌≡◌, IfOk};
 ghost use Rattle.std.specs.List.{AllByRecursion};
 ghost use Rattle.sp_defs.specs.Within.{PowersWithin};
 ghost use Rattle.sp_llt.specs.Adopting.{listed_powers};
+ghost use Rattle.sp_llt.specs.Filled.{IsFilled};
 
-use crate::{CertFault, Certificate, Column, check};
+use crate::{CertFault, Certificate, Column, check, write};
 use sp_fock::Vector;
+use sp_llt::{Ctx, Entry, RowsFault, entry_alone};
 use sp_partition::{Items, Partition};
 use std::alloc::Global;
+use std::sync::Arc;
 use std::test::Fail;
 
 /// A certificate of degree 1 at e = 2, which has one column and no shares.
@@ -78,5 +81,46 @@ fn a_row_and_none(rt: HostRuntime) -> Result<(), Fail> {
         verdict(alloc, &wrong)?.as_slice(),
         b"wrong at 1".as_slice()
     );
+    Ok(())
+}
+
+/// The entries of all ranks.
+fn rows_of(alloc: Global, ctx: &Ctx) -> Result<Vec<Arc<Entry>>, Fail>
+    ensures { IfOk result (λ rows. IsFilled ctx.now rows.items) }
+{
+    let mut rows = Vec::new(alloc);
+    for k in 0..ctx.regulars().len() {
+        let entry = entry_alone(alloc, ctx, k)?;
+        rows.push(Arc::new(alloc, entry)?)?;
+    }
+    Ok(rows)
+}
+
+#[test]
+fn the_certificate_of_degree_five(rt: HostRuntime) -> Result<(), Fail> {
+    let alloc = rt.alloc();
+    let ctx = Ctx::open(alloc, 2, 5, 1_000_000)?;
+    let rows = rows_of(alloc, &ctx)?;
+    let mut out = Vec::new(alloc);
+    let written = write(alloc, &ctx, &rows, &mut out);
+    assert!(rt; written.is_ok());
+    let text = b"certificate 2\ne 2\ndegree 5\nblock 3 2\ncolumn 3,2\nentry 3,2 1\nentry 3,1^2 v\n\
+        entry 2^2,1 v^2\ncolumn 5\nshare 3,2 1\nentry 5 1\nentry 3,1^2 v\nentry 1^5 v^2\nblock 2 3\n\
+        column 4,1\nentry 4,1 1\nentry 2,1^3 v\nend\n";
+    assert_eq!(rt; out.as_slice(), text.as_slice());
+    Ok(())
+}
+
+#[test]
+fn a_refused_row_is_named(rt: HostRuntime) -> Result<(), Fail> {
+    let alloc = rt.alloc();
+    let ctx = Ctx::open(alloc, 2, 5, 2)?;
+    let rows = rows_of(alloc, &ctx)?;
+    let mut out = Vec::new(alloc);
+    let written = write(alloc, &ctx, &rows, &mut out);
+    if let Err(RowsFault::Refused(refused)) = &written {
+        refused.mu.print(alloc, &mut out)?;
+    }
+    assert_eq!(rt; out.as_slice(), b"5".as_slice());
     Ok(())
 }
