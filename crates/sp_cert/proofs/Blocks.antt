@@ -1,6 +1,7 @@
 -- Where a column stands among the others: each partition of its block that is earlier stands before it, and from there
 -- on the columns ascend.
-use Rattle.std.proofs.Common.{◌≡◌, ℕ, zero, suc, ◌+◌, ◌-◌, ◌<◌, ◌≤◌, Bool, true, false, cond, nat_eq, List, [], ◌∷◌, ◌++◌}
+use Rattle.std.proofs.Common.{◌≡◌, ℕ, zero, suc, ◌+◌, ◌-◌, ◌<◌, ◌≤◌, Bool, true, false}
+use Rattle.std.proofs.Common.{cond, nat_eq, List, [], ◌∷◌, ◌++◌}
 use Rattle.std.proofs.Common.{length, get_or, flat_map, refl, sym, ◌∙◌, ap, subst, arith, ◌⊎◌, inl, inr, Less, Equal}
 use Rattle.std.proofs.Common.{length-append, append_assoc}
 use Rattle.std.proofs.lemmas.List.{append-nil, get_or-append-add, get_or_append_left}
@@ -18,6 +19,7 @@ use Rattle.sp_cert.specs.Order.{same_content, block_of, leaders, columns_of}
 
 -- ---- lists that ascend
 
+-- elements of an ascending list ascend by places
 pub ascends_at : (list : List (List ℕ)) → Ascending list → (i j : ℕ) → i < j → j < length list →
     IsEarlier (get_or list i []) (get_or list j [])
 ascends_at [] h i j lt within = absurd (omega arith)
@@ -35,6 +37,7 @@ pub record IsAt (x : List ℕ) (xs : List (List ℕ)) : Type 0 where
   pub within : place < length xs
   pub is : get_or xs place [] ≡ x
 
+-- an element that occurs stands at a place
 pub place_of : (x : List ℕ) (xs : List (List ℕ)) → Occurs x xs → IsAt x xs
 place_of x [] o = absurd o
 place_of x (y ∷ xs) (inl e) = record { place = zero; within = omega arith; is = sym e }
@@ -91,6 +94,7 @@ in_place front block rest j lt =
     get_or-append-add front (block ++ rest) j [] ∙ get_or_append_left block rest [] j lt
 
 module _ (Among : List ℕ → List ℕ → Type 0) where
+  -- an earlier partition that the block has stands before the place
   pub lower_in : (xs : List (List ℕ)) (i : ℕ) (b : InBlock Among xs i) (nu : List ℕ) →
       Among (get_or xs i []) nu → IsEarlier nu (get_or xs i []) → IsLower xs i nu
   lower_in xs i b nu among earlier = record {
@@ -132,6 +136,7 @@ module _ (Among : List ℕ → List ℕ → Type 0) where
   module _ (f : List ℕ → List (List ℕ)) (up : (l : List ℕ) → Ascending (f l))
       (closed : (l : List ℕ) (k : ℕ) → k < length (f l) → (nu : List ℕ) → Among (get_or (f l) k []) nu →
       Occurs nu (f l)) where
+    -- each place of blocks one after the other is in one of them
     pub in_flat : (ls : List (List ℕ)) (i : ℕ) → i < length (flat_map f ls) → InBlock Among (flat_map f ls) i
     in_flat [] i lt = absurd (omega arith)
     in_flat (l ∷ ls) i lt = settle (le_or_lt (length (f l)) i) (in_flat ls (i - length (f l)))
@@ -168,6 +173,7 @@ module _ (Among : List ℕ → List ℕ → Type 0) where
 
 -- ---- contents
 
+-- the test passes where the contents are the same
 pub content_test : (e : ℕ) (mu nu : List ℕ) → SameContent e mu nu → same_content e mu nu ≡ true
 content_test e mu nu h =
     tests_all (λ i. nat_eq (content e mu i) (content e nu i)) (range_with_len 0 e)
@@ -217,6 +223,7 @@ module _ (e n : ℕ) where
     closed = λ nu among. each_regular e n nu among.regular;
   }
 
+  -- each column stands in a block
   pub in_columns : (version i : ℕ) → 1 ≤ version → version ≤ 2 → i < length (columns_of version e n) →
       InBlock (IsAmong version e n) (columns_of version e n) i
   unfolding columns_of
@@ -227,6 +234,7 @@ module _ (e n : ℕ) where
       (λ l. Ascending-filter (same_content e l) (regulars e n) (regulars_ascend e n)) block_closed (leaders e n) i lt
   in_columns (suc (suc (suc v))) i least most lt = absurd (omega arith)
 
+  -- all columns are e-regular partitions of n
   pub all_columns : (version : ℕ) → AllByRecursion (IsRegularOf e n) (columns_of version e n)
   unfolding columns_of
   all_columns version = by (nat_eq version 1)

@@ -64,6 +64,7 @@ right_alike e mu L M fs w h right = record {
   sum = λ lambda p. right.sum lambda p ∙ ap (plus (w lambda)) (combinations_alike (degree mu) L M fs h lambda p);
 }
 
+-- the other way round
 pub same_back : (n : ℕ) (L M : List ℕ → Vector) (fs : Factors) → Same n L M fs → Same n M L fs
 same_back n L M fs h =
     all_weaken (λ a. (lambda : List ℕ) → IsPartitionOf n lambda → L a.0 lambda ≡ M a.0 lambda)

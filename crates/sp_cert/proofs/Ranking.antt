@@ -38,6 +38,7 @@ pub record IsRanked (e n : ℕ) (mu : List ℕ) : Type 0 where
   pub within : rank_of e mu < length (regulars e n)
   pub at : get_or (regulars e n) (rank_of e mu) [] ≡ mu
 
+-- an e-regular partition of n stands at its rank
 pub ranked : (e n : ℕ) (mu : List ℕ) → 2 ≤ e → IsRegularOf e n mu → IsRanked e n mu
 ranked e n mu least h = record {
   within = subst (λ d. rank_of e mu < length (regulars e d)) h.total (rank_within e mu is);
@@ -53,9 +54,11 @@ abbrev pub own : Column → List ℕ
 own c = c.mu
 
 module _ (c : Listing) (h : IsCertificate c) where
+  -- there are as many columns as partitions in the order
   pub count : length (columns_of c.version c.e c.degree) ≡ length c.columns
   count = ap length (sym h.order) ∙ length-map c.columns own
 
+  -- each column is at an e-regular partition of n
   pub regular_at : (i : ℕ) → i < length c.columns → IsRegularOf c.e c.degree (get_or (map own c.columns) i [])
   regular_at i lt =
       subst (λ xs. IsRegularOf c.e c.degree (get_or xs i [])) (sym h.order)
@@ -66,6 +69,7 @@ module _ (c : Listing) (h : IsCertificate c) where
   pub own_at : (i : ℕ) (d : Column) → i < length c.columns → get_or (map own c.columns) i [] ≡ (get_or c.columns i d).mu
   own_at i d lt = get_or-map own c.columns i d [] lt
 
+  -- so is the column that stands at a place
   pub regular_own : (i : ℕ) (d : Column) → i < length c.columns → d ≡ get_or c.columns i d →
       IsRegularOf c.e c.degree d.mu
   regular_own i d lt is =
@@ -79,6 +83,7 @@ module _ (c : Listing) (h : IsCertificate c) where
     pub is : rank_at c.e c.columns place ≡ rank
     pub chain : (q : ℕ) → place ≤ q → q < i → rank_at c.e c.columns q < rank_at c.e c.columns (q + 1)
 
+  -- the rank of each share stands before its column
   pub share_before : (i : ℕ) (d : Column) → i < length c.columns → d ≡ get_or c.columns i d → (s : Share) →
       s.rank < rank_of c.e d.mu →
       (c.version ≡ 2 → SameContent c.e d.mu (label (key_of c.e c.degree 1) s.rank)) → IsShareBefore i s.rank

@@ -1,7 +1,9 @@
 -- One step of the test of a certificate.
-use Rattle.std.proofs.Common.{◌≡◌, ℕ, zero, suc, ◌+◌, ◌-◌, ◌<◌, ◌≤◌, List, [], ◌∷◌, ◌++◌, map, length, get_or, take, drop}
+use Rattle.std.proofs.Common.{◌≡◌, ℕ, zero, suc, ◌+◌, ◌-◌, ◌<◌, ◌≤◌, List, [], ◌∷◌}
+use Rattle.std.proofs.Common.{◌++◌, map, length, get_or, take, drop}
 use Rattle.std.proofs.Common.{refl, sym, ◌∙◌, ap, ap₂, subst, arith, ◌⊎◌, inl, inr, append_assoc}
-use Rattle.std.proofs.lemmas.List.{get_or-map, get_or-take, length-map, length-take-le, take_more, map-append, drop-append-le}
+use Rattle.std.proofs.lemmas.List.{get_or-map, get_or-take, length-map, length-take-le}
+use Rattle.std.proofs.lemmas.List.{take_more, map-append, drop-append-le}
 use Rattle.std.proofs.lemmas.List.{length-drop, take-append-drop}
 use Rattle.std.proofs.Math.Seq.{take-length}
 use Rattle.std.specs.List.{AllByRecursion}
@@ -18,7 +20,8 @@ use Rattle.sp_llt.specs.declared.share.Share.{Share}
 use Rattle.sp_llt.specs.Place.{Place, place, label, key_of}
 use Rattle.sp_llt.specs.Shares.{rank_of, given_shares}
 use Rattle.sp_llt.specs.Refusals.{outcome_at}
-use Rattle.sp_llt.specs.Adopting.{Rising, AreListedShares, AreEarlierRows, HasRank, factors_at, listed_weight, IsRightlyListed}
+use Rattle.sp_llt.specs.Adopting.{Rising, AreListedShares, AreEarlierRows, HasRank}
+use Rattle.sp_llt.specs.Adopting.{factors_at, listed_weight, IsRightlyListed}
 use Rattle.sp_cert.specs.declared.certificate.Column.{Column}
 use Rattle.sp_cert.specs.Rules.{Listing, IsCertificate, IsListedColumn}
 use Rattle.sp_cert.specs.Verdict.{listed_in, IsLarge, Fits, IsRightColumn, IsAccepted, IsRowColumn, FailsFirst, IsWrong}
@@ -75,13 +78,16 @@ module _ (c : Listing) (h : IsCertificate c) (key : Key) (i : ℕ) (entries : Li
   listed = subst (IsListedColumn c.version c.e c.degree) (sym is)
       (all_at (IsListedColumn c.version c.e c.degree) cs i d h.each lt)
 
+  -- the partition of the column is e-regular
   pub own_regular : IsRegularOf key.e key.degree d.mu
   own_regular = subst (λ n. IsRegularOf key.e n d.mu) (sym n_is)
       (subst (λ e. IsRegularOf e c.degree d.mu) (sym e_is) (regular_own c h i d lt is))
 
+  -- its entries have the degree of the context
   pub own_degree : d.entries.degree ≡ key.degree
   own_degree = listed.degree ∙ sym n_is
 
+  -- there are as many entries as columns before
   pub entry_count : length entries ≡ i
   entry_count =
       ap length checked.made ∙ length-map (take i cs) (entry_for key) ∙ length-take-le i cs (omega (arith, lt))
@@ -123,12 +129,15 @@ module _ (c : Listing) (h : IsCertificate c) (key : Key) (i : ℕ) (entries : Li
             let here : rank_at c.e cs next ≡ k = ap (rank_at c.e cs) at_end ∙ own_rank ∙ sym k_is in
             omega (arith, high, here, entry_rank q (entry_for key d) (omega (arith, e, at_end)))
 
+    -- the entries that are looked up begin among those there are
     pub next_within : next ≤ i
     next_within = omega (arith, st.within, entry_count)
 
+    -- its shares are as adopting wants them
     pub listed_shares : AreListedShares k d.shares
     listed_shares = subst (λ r. AreListedShares r d.shares) (sym (k_is ∙ ap (λ e. rank_of e d.mu) e_is)) listed.shares
 
+    -- the entries that are looked up are earlier rows
     pub earlier_rows : AreEarlierRows key k (drop next entries)
     earlier_rows = record {
       of = all_from (λ p. p.key ≡ key) next entries
@@ -175,6 +184,7 @@ module _ (c : Listing) (h : IsCertificate c) (key : Key) (i : ℕ) (entries : Li
         by [] ls f = tt
         by (s ∷ ss) (l, ls) f = (before s l (λ two. (f two).0), by ss ls (λ two. (f two).1))
 
+    -- each share has its entry among them
     pub have_ranks : AllByRecursion (λ s. HasRank (drop next entries) s.rank) d.shares
     have_ranks = all_weaken (λ s. IsShareBefore c h i s.rank) (λ s. HasRank (drop next entries) s.rank) d.shares
         has_rank shares_before
@@ -232,12 +242,15 @@ module _ (c : Listing) (h : IsCertificate c) (key : Key) (i : ℕ) (entries : Li
         ap (λ m. column_weight key.e (regular_row key.e) m (factors_at key d.shares)) own_label
         ∙ sym (weights_alike key.e d.mu (listed_in cs) (regular_row key.e) (factors_at key d.shares) listed_are_rows)
 
+    -- too large with the rows is too large with the listed columns
     pub large_column : key.limit < listed_weight key k d.shares → IsLarge key cs d
     large_column large = subst (λ m. key.limit < m) weight_is large
 
+    -- and so is what fits
     pub fitting_column : listed_weight key k d.shares ≤ key.limit → Fits key cs d
     fitting_column fits = subst (λ m. m ≤ key.limit) weight_is fits
 
+    -- what is right with the rows is right with the listed columns
     pub right_column : IsRightlyListed key k d.shares d.entries → IsRightColumn key cs d
     right_column right =
         right_alike key.e d.mu (regular_row key.e) (listed_in cs) (factors_at key d.shares)
@@ -246,6 +259,7 @@ module _ (c : Listing) (h : IsCertificate c) (key : Key) (i : ℕ) (entries : Li
         (subst (λ m. IsRight key.e (regular_row key.e) m (factors_at key d.shares) (vector_of d.entries.entries))
         own_label right)
 
+    -- and the other way round
     pub rightly_listed : IsRightColumn key cs d → IsRightlyListed key k d.shares d.entries
     rightly_listed right =
         subst (λ m. IsRight key.e (regular_row key.e) m (factors_at key d.shares) (vector_of d.entries.entries))
@@ -261,6 +275,7 @@ module _ (c : Listing) (h : IsCertificate c) (key : Key) (i : ℕ) (entries : Li
         ∙ ap (λ xs. xs ++ drop (i + 1) cs) (take_more cs i d lt ∙ ap (λ x. take i cs ++ (x ∷ [])) (sym is))
         ∙ append_assoc (take i cs) (d ∷ []) (drop (i + 1) cs)
 
+    -- a column that is too large is the first that fails
     pub fails_large : key.limit < listed_weight key k d.shares → FailsFirst (IsLarge key cs) key cs d.mu
     fails_large large = record {
       accepted = take i cs;
@@ -272,6 +287,7 @@ module _ (c : Listing) (h : IsCertificate c) (key : Key) (i : ℕ) (entries : Li
       bad = large_column large;
     }
 
+    -- so is one that is wrong
     pub fails_wrong : listed_weight key k d.shares ≤ key.limit → (IsRightlyListed key k d.shares d.entries → ⊥) →
         FailsFirst (IsWrong key cs) key cs d.mu
     fails_wrong fits wrong = record {
@@ -287,6 +303,7 @@ module _ (c : Listing) (h : IsCertificate c) (key : Key) (i : ℕ) (entries : Li
     taken : take (i + 1) cs ≡ take i cs ++ (d ∷ [])
     taken = take_more cs i d lt ∙ ap (λ x. take i cs ++ (x ∷ [])) (sym is)
 
+    -- one more column is accepted
     pub checked_more : (entry : Place) → entry ≡ place key k → outcome_at (place key k) ≡ Row →
         d.entries ≡ fock_vector key.degree (regular_row key.e (label key k)) →
         d.shares ≡ given_shares key.e (label key k) 0 → listed_weight key k d.shares ≤ key.limit →
@@ -333,6 +350,7 @@ rest_is n ps = ap (λ m. take m (drop n ps)) (sym (length-drop n ps)) ∙ take-l
 
 -- ---- the start and the end
 
+-- no column is tested at the start
 pub checked_none : (key : Key) (c : Listing) (entries : List Place) → key ≡ key_of c.e c.degree key.limit →
     entries ≡ [] → IsChecked key c 0 entries 0
 checked_none key c entries is none = record {
@@ -351,6 +369,7 @@ pub record IsWhole (key : Key) (c : Listing) (entries : List Place) : Type 0 whe
   pub accepted : AllByRecursion (IsAccepted key c.columns) c.columns
   pub rows : AllByRecursion (IsRowColumn key) c.columns
 
+-- all columns are accepted at the end
 pub checked_all : (key : Key) (c : Listing) (i : ℕ) (entries : List Place) (start : ℕ) → i ≡ length c.columns →
     IsChecked key c i entries start → IsWhole key c entries
 checked_all key c i entries start end h = record {

@@ -62,6 +62,7 @@ pub record IsRowOf (key : Key) (rank : ℕ) (p : Place) : Type 0 where
   pub is : p ≡ place key rank
   pub row : outcome_at p ≡ Row
 
+-- the entry of a rank, and that it has a row
 pub row_in : (key : Key) (rows : List (Arc Place Global)) (rank : ℕ) (a : Arc Place Global) → IsFilled key rows →
     first_refusal (reverse (map arc_value rows)) ≡ None → rank < length (labels key) → a ≡ get_or rows rank a →
     IsRowOf key rank (arc_value a)
@@ -77,12 +78,14 @@ row_in key rows rank a filled none lt is = record {
 
 -- ---- what an entry with a row tells
 
+-- the shares that it tells
 pub told : (p : Place) (key : Key) → p.key ≡ key → outcome_at p ≡ Row →
     told_shares p.key.e p.key.limit (label p.key p.rank) ≡ given_shares key.e (label key p.rank) 0
 told p key is row =
     ap (λ o. cond (is_too_large o) [] (given_shares p.key.e (label p.key p.rank) 0)) row
     ∙ ap (λ (k : Key). given_shares k.e (label k p.rank) 0) is
 
+-- the entries of its row
 pub row_entries : (p : Place) (key : Key) (v : FockVector) → p.key ≡ key →
     v ≡ fock_vector p.key.degree (regular_row p.key.e (label p.key p.rank)) →
     v.entries ≡ entries key.degree (regular_row key.e (label key p.rank))
@@ -92,8 +95,10 @@ row_entries p key v is h =
 
 -- ---- joined texts
 
+-- four texts joined
 pub four : (a b c d : List ℕ) → ((a ++ b) ++ c) ++ d ≡ a ++ (b ++ (c ++ d))
 four a b c d = append_assoc (a ++ b) c d ∙ append_assoc a b (c ++ d)
 
+-- five texts joined
 pub five : (a b c d e : List ℕ) → (((a ++ b) ++ c) ++ d) ++ e ≡ a ++ (b ++ (c ++ (d ++ e)))
 five a b c d e = append_assoc ((a ++ b) ++ c) d e ∙ four a b c (d ++ e)

@@ -1,5 +1,6 @@
 // The certificate of all rows of a context.
-ghost use Rattle.std.specs.Prelude.{◌≡◌, ◌++◌, ◌<◌, ◌≤◌, [], cond, map, reverse, not, length, take, flat_map, IfOk, OnOk, OnErr, IsErrOf};
+ghost use Rattle.std.specs.Prelude.{◌≡◌, ◌++◌, ◌<◌, ◌≤◌, [], cond, map, reverse, not, length};
+ghost use Rattle.std.specs.Prelude.{take, flat_map, IfOk, OnOk, OnErr, IsErrOf};
 ghost use Rattle.std.specs.Prelude.{None as Nothing, Some as Just};
 ghost use Rattle.std.specs.Arc.{arc_value};
 ghost use Rattle.std.specs.List.{list_any};

@@ -1,4 +1,5 @@
-use Rattle.std.proofs.Common.{◌≡◌, ℕ, ◌+◌, ◌-◌, ◌<◌, ◌≤◌, List, length, get_or, drop, refl, sym, ◌∙◌, ap, subst, arith, inl, ltb-true}
+use Rattle.std.proofs.Common.{◌≡◌, ℕ, ◌+◌, ◌-◌, ◌<◌, ◌≤◌, List, length, get_or, drop, refl, sym}
+use Rattle.std.proofs.Common.{◌∙◌, ap, subst, arith, inl, ltb-true}
 use Rattle.std.proofs.lemmas.List.{get_or-drop, get_or_default, length-drop}
 use Rattle.std.specs.List.{AllByRecursion}
 use Rattle.sp_llt.specs.Place.{Place}
