@@ -1,5 +1,5 @@
-pub mod Naming
 pub mod Painted
 pub mod Pairs
 pub mod Runs
 pub mod SimpleDims
+pub mod Summing

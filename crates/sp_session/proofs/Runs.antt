@@ -1,16 +1,18 @@
 -- Runs by what their words say.
-use Rattle.std.proofs.Common.{◌≡◌, ◌≢◌, ℕ, Bool, [], List, Option, Some, refl, sym, ◌∙◌, ap, subst}
+use Rattle.std.proofs.Common.{◌≡◌, ◌≢◌, ℕ, Bool, [], List, Option, Some, None, refl, sym, ◌∙◌, ap, subst}
 use Rattle.std.proofs.Common.{append-nil, arith, inl, inr}
 use Rattle.sp_base.specs.Causes.{Rose}
 use Rattle.sp_paint.specs.State.{PainterState}
 use Rattle.sp_stream.specs.declared.status.Status.{Status}
 use Rattle.sp_stream.specs.declared.status.Status.TheVariants.{Usage, ReadFault, WriteFault, OutOfMemory}
 use Rattle.sp_stream.specs.Faults.{FaultsHaveCause, IsSteadyForAll}
-use Rattle.sp_stream.specs.Transcript.{texts_of, transcript}
+use Rattle.sp_stream.specs.Transcript.{Rules, texts_of, transcript}
+use Rattle.sp_words.specs.declared.words.Words.{Words}
+use Rattle.sp_words.specs.Words.{Says}
 use Rattle.sp_session.specs.Reply.{session_rules}
-use Rattle.sp_session.specs.Run.{AnswersAll, AnswersLines, IsRun}
+use Rattle.sp_session.specs.Run.{AnswersLines, IsRun, MakesLines, Obeys, ReadsLines}
 use Rattle.sp_session.specs.State.{opening}
-use Rattle.sp_session.specs.Words.{NamesLimit}
+use Rattle.sp_session.specs.Summary.{IsOneReply, summary_line}
 
 -- Without memory nothing was answered.
 nothing_answered : (limit : ℕ) (painters : List PainterState) (left written : Option (List ℕ)) →
@@ -23,65 +25,75 @@ nothing_answered limit painters left written = λ input left_is. (
       ([], texts, refl, is ∙ ap (λ t. Some t) (sym (append-nil before))),
 )
 
+-- No fault came and nothing was counted.
+no_fault : (fault status : Status) (faults : ℕ) (IsSteady : Type 0) → status ≢ fault →
+    FaultsHaveCause fault status faults faults IsSteady
+no_fault fault status faults IsSteady other = record {
+  later = omega arith;
+  cause = λ is. absurd (other is);
+  calm = λ steady. (other, refl);
+}
+
 module _ {Source Sink : Type 0}
     (left : Source → Option (List ℕ)) (source_faults : Source → ℕ) (source_steady : Source → Type 0)
     (written : Sink → Option (List ℕ)) (sink_faults : Sink → ℕ) (sink_steady : Sink → ℕ → Type 0)
-    (many : Bool) (words : List (List ℕ)) (painters : List PainterState) (source : Source) (sink : Sink) where
-  abbrev Run : Source → Sink → Status → Type 0
-  Run now_source now_sink status =
-      IsRun left source_faults source_steady written sink_faults sink_steady many words painters source now_source
-      sink now_sink status
-
-  -- Words that name no limit are refused.
-  pub refused_run : ((limit : ℕ) → ¬ NamesLimit many words limit) → Run source sink Usage
-  refused_run none = record {
-    usage = λ is. none;
-    untouched = λ is. (refl, refl);
-    refused = λ _. inl refl;
-    told = λ limit names. absurd (none limit names);
-    read_faults = record { later = omega arith; cause = λ is. cc; calm = λ s. ((λ is. cc), refl) };
-    write_faults = record { later = omega arith; cause = λ is. cc; calm = λ s. ((λ is. cc), refl) };
-    complete = λ limit names. absurd (none limit names);
+    (painters : List PainterState) (source : Source) (sink : Sink) where
+  -- Without memory a run has done what its words say.
+  unread_obeys : (limit : ℕ) (generate : Option ℕ) →
+      Obeys left source_faults source_steady written sink_faults sink_steady limit painters generate source source sink
+      sink OutOfMemory
+  unread_obeys limit None = record {
+    told = nothing_answered limit painters (left source) (written sink);
+    read_faults = no_fault _ _ _ _ (λ is. cc);
+    write_faults = no_fault _ _ _ _ (λ is. cc);
+    complete = λ read wrote input left_is few. inr refl;
   }
-
-  -- There was no memory to read the words.
-  pub unread_run : Run source sink OutOfMemory
-  unread_run = record {
-    usage = λ is. cc;
-    untouched = λ is. (refl, refl);
-    refused = λ _. inr refl;
-    told = λ limit names. nothing_answered limit painters (left source) (written sink);
-    read_faults = record { later = omega arith; cause = λ is. cc; calm = λ s. ((λ is. cc), refl) };
-    write_faults = record { later = omega arith; cause = λ is. cc; calm = λ s. ((λ is. cc), refl) };
-    complete = λ limit names read wrote. λ input left_is few. inr refl;
-  }
-
-  -- The limit that the words name is the one under which the lines were answered.
-  pub named_run : (now_source : Source) (now_sink : Sink) (status : Status) (limit : ℕ) →
-      NamesLimit many words limit → ((other : ℕ) → NamesLimit many words other → other ≡ limit) → status ≢ Usage →
-      AnswersLines limit painters (left source) (left now_source) (written sink) (written now_sink) status →
-      FaultsHaveCause ReadFault status (source_faults source) (source_faults now_source) (source_steady source) →
-      FaultsHaveCause WriteFault status (sink_faults sink) (sink_faults now_sink)
-      (IsSteadyForAll (sink_steady sink) (transcript (session_rules limit) (opening painters)) (left source)) →
-      (¬ Rose (source_faults source) (source_faults now_source) →
-      ¬ Rose (sink_faults sink) (sink_faults now_sink) → AnswersAll (left source) status) →
-      Run now_source now_sink status
-  named_run now_source now_sink status limit names only other told read_faults write_faults complete = record {
-    usage = λ is. absurd (other is);
-    untouched = λ is. absurd (other is);
-    refused = λ none. absurd (none limit names);
-    told = λ one named.
-        subst (λ (l : ℕ).
-        AnswersLines l painters (left source) (left now_source) (written sink) (written now_sink) status)
-        (sym (only one named)) told;
-    read_faults = read_faults;
-    write_faults = record {
-      later = write_faults.later;
-      cause = write_faults.cause;
-      calm = λ steady. write_faults.calm
-          (subst (λ (l : ℕ).
-          IsSteadyForAll (sink_steady sink) (transcript (session_rules l) (opening painters)) (left source))
-          (only steady.0 steady.1) steady.2);
+  unread_obeys limit (Some start) = record {
+    unread = refl;
+    reply = record {
+      ends = inr (inr refl);
+      told = λ before is. is;
+      write_faults = no_fault _ _ _ _ (λ is. cc);
+      complete = λ wrote. inr refl;
     };
-    complete = λ one named. complete;
   }
+
+  module _ (many : Bool) (words : List (List ℕ)) where
+    abbrev Run : Source → Sink → Status → Type 0
+    Run now_source now_sink status =
+        IsRun left source_faults source_steady written sink_faults sink_steady many words painters source now_source
+        sink now_sink status
+
+    -- Words that are not allowed are refused.
+    pub refused_run : ((said : Words) → ¬ Says many words said) → Run source sink Usage
+    refused_run none = record {
+      usage = λ is. none;
+      untouched = λ is. (refl, refl);
+      refused = λ _. (inl refl, refl, refl);
+      obeys = λ said says. absurd (none said says);
+    }
+
+    -- There was no memory to read the words.
+    pub unread_run : Run source sink OutOfMemory
+    unread_run = record {
+      usage = λ is. cc;
+      untouched = λ is. cc;
+      refused = λ _. (inr refl, refl, refl);
+      obeys = λ said says. unread_obeys said.limit said.generate;
+    }
+
+    -- What was done is what the words say.
+    pub said_run : (now_source : Source) (now_sink : Sink) (status : Status) (said : Words) → Says many words said →
+        ((other : Words) → Says many words other → other ≡ said) → status ≢ Usage →
+        Obeys left source_faults source_steady written sink_faults sink_steady said.limit painters said.generate source
+        now_source sink now_sink status → Run now_source now_sink status
+    said_run now_source now_sink status said says only other obeys = record {
+      usage = λ is. absurd (other is);
+      untouched = λ is. absurd (other is);
+      refused = λ none. absurd (none said says);
+      obeys = λ one named.
+          subst (λ (w : Words).
+          Obeys left source_faults source_steady written sink_faults sink_steady w.limit painters w.generate source
+          now_source sink now_sink status)
+          (sym (only one named)) obeys;
+    }

@@ -102,6 +102,20 @@ fn many_workers_answer_all_that_matrices_are_for(rt: HostRuntime) -> Result<(), 
 }
 
 #[test]
+fn many_workers_sum_up_the_same(rt: HostRuntime) -> Result<(), Fail> {
+    let alloc = rt.alloc();
+    let output = b"generated 0 lines 200 errors 44 bytes 149372 sum 6597746\n";
+    let counts: [&[&str]; 2] = [
+        &["--generate", "0", "--workers", "1"],
+        &["--workers=8", "--generate=0"],
+    ];
+    for words in counts {
+        assert!(rt; writes(&rt, alloc, words, "frob\n", output.as_slice(), &Still)?);
+    }
+    Ok(())
+}
+
+#[test]
 fn other_words_are_refused_where_there_are_many_workers(rt: HostRuntime) -> Result<(), Fail> {
     let alloc = rt.alloc();
     let cases: [&[&str]; 10] = [

@@ -311,7 +311,10 @@ fn ladder_vectors_are_refused_past_the_limit(rt: HostRuntime) -> Result<(), Fail
 
 #[test]
 fn other_words_are_refused(rt: HostRuntime) -> Result<(), Fail> {
-    let cases: [&'static [&'static str]; 5] = [
+    let cases: [&'static [&'static str]; 8] = [
+        &["--generate", "2147483648"],
+        &["--generate", "007"],
+        &["--generate", "0", "--generate=0"],
         &["--limit", "007"],
         &["--"],
         &["frob"],
@@ -365,5 +368,49 @@ fn rows_are_answered(rt: HostRuntime) -> Result<(), Fail> {
         };
         assert!(rt; holds(rt.alloc(), &case)?, "at {input}");
     }
+    Ok(())
+}
+
+// The last two numbers are those of an independent program.
+#[test]
+fn made_lines_are_summed_up(rt: HostRuntime) -> Result<(), Fail> {
+    let cases: [(&'static [&'static str], &'static str); 4] = [
+        (
+            &["--generate", "0"],
+            "generated 0 lines 200 errors 44 bytes 149372 sum 6597746\n",
+        ),
+        (
+            &["--generate=1"],
+            "generated 1 lines 200 errors 47 bytes 119697 sum 5295800\n",
+        ),
+        (
+            &["--generate", "20261201"],
+            "generated 20261201 lines 200 errors 58 bytes 110452 sum 4878776\n",
+        ),
+        (
+            &["--generate=2147483647"],
+            "generated 2147483647 lines 200 errors 45 bytes 150352 sum 6589032\n",
+        ),
+    ];
+    for (words, output) in cases {
+        // Nothing is read: the first read would fail.
+        let case = Case {
+            words,
+            failing_read: 1,
+            ..plain("conjugate 2\n", Status::Done, output)
+        };
+        assert!(rt; holds(rt.alloc(), &case)?, "at {output}");
+    }
+    Ok(())
+}
+
+#[test]
+fn a_summary_stops_where_the_sink_fails(rt: HostRuntime) -> Result<(), Fail> {
+    let case = Case {
+        words: &["--generate", "0"],
+        failing_write: 2,
+        ..plain("", Status::WriteFault, "generat")
+    };
+    assert!(rt; holds(rt.alloc(), &case)?);
     Ok(())
 }

@@ -1,11 +1,10 @@
-use Rattle.sp_session.proofs.Runs.{named_run, refused_run, unread_run}
+use Rattle.sp_session.proofs.Runs.{refused_run, said_run, unread_run}
 use Rattle.sp_session.proofs.top.run.Goals as goal
 
 pub returns-in-Ok : goal.returns-in-Ok
 returns-in-Ok g c =
-    let done = c.run_many.ensures in
-    named_run _ _ _ _ _ _ _ _ _ _ _ _ _ c.run_many.result c.in-Ok.said.limit c.in-Ok.ensures.limit
-    c.in-Ok.ensures.only done.used done.told done.read_faults done.write_faults done.complete
+    said_run _ _ _ _ _ _ _ _ _ _ _ _ _ c.run_many.result c.in-Ok.said c.in-Ok.ensures.said c.in-Ok.ensures.only
+    c.run_many.ensures.used c.run_many.ensures.obeys
 
 pub returns-in-Err-Usage : goal.returns-in-Err-Usage
 returns-in-Err-Usage g c =
