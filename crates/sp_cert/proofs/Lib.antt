@@ -5,3 +5,4 @@ pub mod Stepping
 pub mod Small
 pub mod Pieces
 pub mod Written
+pub mod Polynomials

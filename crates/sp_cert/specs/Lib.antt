@@ -3,3 +3,4 @@ pub mod Rules
 pub mod Verdict
 pub mod Checked
 pub mod Texts
+pub mod Polynomials
