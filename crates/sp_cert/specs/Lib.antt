@@ -4,3 +4,4 @@ pub mod Verdict
 pub mod Checked
 pub mod Texts
 pub mod Polynomials
+pub mod Grammar
