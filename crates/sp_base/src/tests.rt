@@ -1,4 +1,4 @@
-use crate::{Failed, MemSink, MemSource, Sink, Source, StdSink, StdSource, put_number};
+use crate::{Failed, MemSink, MemSource, Sink, Source, StdSink, StdSource, SureSource, put_number};
 use std::alloc::Global;
 use std::io::{Error, ErrorKind, Read, Write};
 use std::test::Fail;
@@ -54,6 +54,16 @@ fn a_source_in_memory_gives_pieces_and_fails_where_listed(rt: HostRuntime) -> Re
     }
     let mut small = MemSource::new(Vec::from_array(alloc, *b"abc")?, 2, Vec::new(alloc));
     assert!(rt; takes(&mut small, Ok("ab")));
+    Ok(())
+}
+
+#[test]
+fn a_sure_source_gives_all_its_bytes(rt: HostRuntime) -> Result<(), Fail> {
+    let alloc = rt.alloc();
+    let mut source = SureSource::new(Vec::from_array(alloc, *b"abcd")?);
+    for want in [Ok("abc"), Ok("d"), Ok(""), Ok("")] {
+        assert!(rt; takes(&mut source, want));
+    }
     Ok(())
 }
 
