@@ -6,3 +6,4 @@ pub mod Small
 pub mod Pieces
 pub mod Written
 pub mod Polynomials
+pub mod Failing

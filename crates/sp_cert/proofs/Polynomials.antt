@@ -1,12 +1,12 @@
 -- The canonical texts of Laurent polynomials are read as these polynomials, and no other text is read as one.
-use Rattle.std.proofs.Common.{◌≡◌, ◌≢◌, ℕ, zero, suc, ◌<◌, ◌≤◌, ◌^◌, ◌⊎◌, inl, inr, Bool, true, false, cond, ◌&&◌}
+use Rattle.std.proofs.Common.{◌≡◌, ℕ, zero, suc, ◌<◌, ◌≤◌, ◌^◌, ◌⊎◌, inl, inr, Bool, true, false, cond, ◌&&◌}
 use Rattle.std.proofs.Common.{nat_eq, nat_le, nat_lt, List, [], ◌∷◌, ◌++◌, codes, flat_map, length, Option, Some, None}
 use Rattle.std.proofs.Common.{ℤ, pos, refl, sym, ◌∙◌, ap, ap₂, subst, arith, append_assoc, append-nil}
 use Rattle.std.specs.Char.{is_ascii_digit}
 use Rattle.std.specs.Cmp.Lexicographic.{pointwise, bytes_decides}
 use Rattle.std.specs.Fmt.{decimal, signed_decimal}
 use Rattle.std.specs.Int.RustNames.{unsigned_abs}
-use Rattle.std.specs.List.{AllByRecursion, list_all}
+use Rattle.std.specs.List.{list_all}
 use Rattle.std.specs.Ordering.{int_eq}
 use Rattle.std.specs.Str.Parse.{AllDigits, digits_value}
 use Rattle.std.specs.Char.{digit_value}
@@ -22,7 +22,7 @@ use Rattle.sp_algebra.proofs.Coefficients.{by_eq}
 use Rattle.sp_laurent.specs.Readable.{IsReadable, read_limit}
 use Rattle.sp_laurent.specs.Pieces.{IsPlain, IsSigned, behind_mark, power_part, IsSmall, Begins}
 use Rattle.sp_laurent.proofs.Fronts.{numeral, sign_plain}
-use Rattle.sp_laurent.proofs.Reading.{Minus, Number, Whole, whole_read, signed_is, factor_one, factor_counted}
+use Rattle.sp_laurent.proofs.Reading.{Minus, Number, whole_read, signed_is, factor_one, factor_counted}
 use Rattle.sp_laurent.proofs.Reading.{power_plain, sign_plus, sign_other, rest_shorter}
 use Rattle.sp_laurent.proofs.Terms.{Left, Next, first_next, later_next, left_after, left_none}
 use Rattle.sp_cert.specs.Polynomials.{digits_in, behind_digits, number_in, marked, minus_in, with_sign, integer_in}
@@ -140,7 +140,9 @@ term_read t rest text h = at (behind_mark 43 text) refl
     at : (o : Option (List ℕ)) → behind_mark 43 text ≡ o →
         unsigned_in (sign_in text o).0 (sign_in text o).1 ≡ (t, rest)
     at (Some behind) some = reads (false, behind) (sign_plus t rest text behind h some)
-    at None none = reads (minus_in text) (sign_other t rest text (minus_in text).1 (minus_in text).0 h none (minus_read text))
+    at None none =
+        reads (minus_in text)
+        (sign_other t rest text (minus_in text).1 (minus_in text).0 h none (minus_read text))
 
 -- ---- all terms
 
@@ -205,7 +207,8 @@ terms_written p h =
 
 -- ---- the test
 
-same_decides : (s t : Term) → Decides (same_term s t) (s ≡ t)
+-- two terms are equal exactly by the test
+pub same_decides : (s t : Term) → Decides (same_term s t) (s ≡ t)
 same_decides (k, c) (j, d) = (
   λ h.
       let both = and_split (int_eq k j) (int_eq c d) h in

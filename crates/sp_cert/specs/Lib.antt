@@ -5,3 +5,4 @@ pub mod Checked
 pub mod Texts
 pub mod Polynomials
 pub mod Grammar
+pub mod Failing
