@@ -1,7 +1,7 @@
 #!/usr/bin/env bash
 # Times the first start and the merge gate in a fresh clone, as on a machine where nothing was proved before: the folder
-# in which `rt` keeps what it proved is covered by an empty one, in a mount namespace of this script's own, so nothing of
-# the machine is removed. It wants root, and some 10 GB of disk under TMPDIR. Nothing else should run meanwhile.
+# in which `rt` keeps what it proved is covered by an empty one, in a mount namespace of this script's own, so nothing
+# of the machine is removed. It wants root, and some 10 GB of disk under TMPDIR. Nothing else should run meanwhile.
 # Usage: bench/first_start.sh [start] [gate]     both where none is named
 set -u
 top=$(cd "$(dirname "$0")/.." && pwd)
@@ -17,15 +17,18 @@ mkdir -p "$kept" "$work/kept"
 mount --bind "$work/kept" "$kept" || exit 1
 export XDG_CACHE_HOME=$work/cache
 
+# a line with the clock
+tell() { printf '%3d min %02d s  %s\n' $((SECONDS / 60)) $((SECONDS % 60)) "$1"; }
+
 # the clock beside the lines that tell of progress
 clocked() {
   SECONDS=0
   while IFS= read -r line; do
     case $line in
-      specht:*|'rt: '*proved*|*' passed, '*) printf '%3d min %02d s  %s\n' $((SECONDS / 60)) $((SECONDS % 60)) "$line" ;;
+      specht:* | 'rt: '*proved* | *' passed, '*) tell "$line" ;;
     esac
   done
-  printf '%3d min %02d s  in all\n' $((SECONDS / 60)) $((SECONDS % 60))
+  tell 'in all'
 }
 
 # the most memory that was in use beyond what was in use at the start, in MB, until the file $work/watch is gone

@@ -8,31 +8,17 @@ for program in specht specht_one; do
   "$top/$program" "$top/examples/first.txt" >/dev/null || exit 1
 done
 
-python3 - "$top" "${1:-5}" <<'PY'
-import os, subprocess, sys, time
+PYTHONDONTWRITEBYTECODE=1 PYTHONPATH=$top/bench python3 - "$top" "${1:-5}" <<'PY'
+import sys
+import timing
 top, runs = sys.argv[1], int(sys.argv[2])
 many, alone = (f"{top}/crates/{it}/out/{it}" for it in ("specht", "specht_one"))
-commands = {"one thread": [alone, "--generate", "0"]}
+commands = {"one thread": ([alone, "--generate", "0"], b"")}
 for count in (1, 4, 8):
-    commands[f"{count} workers"] = [many, "--workers", str(count), "--generate", "0"]
+    commands[f"{count} workers"] = ([many, "--workers", str(count), "--generate", "0"], b"")
 
-def run(command):
-    """The seconds by the clock, the greatest resident size in MB and the output of one run."""
-    start = time.perf_counter()
-    ran = subprocess.Popen(command, stdin=subprocess.DEVNULL, stdout=subprocess.PIPE)
-    text = ran.stdout.read()
-    _, status, used = os.wait4(ran.pid, 0)
-    ran.returncode = status
-    if status:
-        raise SystemExit(f"{command} ended with {status}")
-    return time.perf_counter() - start, used.ru_maxrss / 1000, text
-
-best, told = {name: (float("inf"), 0) for name in commands}, set()
-for _ in range(runs):
-    for name, command in commands.items():
-        taken, memory, text = run(command)
-        told.add(text)
-        best[name] = min(best[name][0], taken), max(best[name][1], memory)
+told = set()
+best = timing.least(commands, runs, outputs=told)
 for text in sorted(told):
     print(text.decode(), end="")
 for name, (taken, memory) in best.items():

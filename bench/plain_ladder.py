@@ -86,4 +86,5 @@ def main():
     print(sum(len(ladder_vector(e, p)) for p in labels))
 
 
-main()
+if __name__ == "__main__":
+    main()

@@ -1,9 +1,10 @@
 #!/usr/bin/env bash
-# Times all rows of a degree, as pages of matrices, and counts the instructions of one of them. Each page is a run of the
-# program, so its start and the printing are counted too; the programs take turns, and the least processor time of RUNS
-# runs is taken (eleven; three from degree 24 on), with the greatest resident size.
-# Usage: bench/rows.sh [BASELINE.rs [RUNS]]. BASELINE.rs is an unverified program of the same algorithm, which is compiled
-# and run as `BASELINE E N --mode naive --print` and with `--mode trie`; the plain mode is left out from degree 24 on.
+# Times all rows of a degree, as pages of matrices, and counts the instructions of one of them. Each page is a run of
+# the program, so its start and the printing are counted too; the programs take turns, and the least processor time of
+# RUNS runs is taken (eleven; three from degree 24 on), with the greatest resident size.
+# Usage: bench/rows.sh [BASELINE.rs [RUNS]]. BASELINE.rs is an unverified program of the same algorithm, which is
+# compiled and run as `BASELINE E N --mode naive --print` and with `--mode trie`; the plain mode is left out from
+# degree 24 on.
 set -u
 top=$(cd "$(dirname "$0")/.." && pwd)
 source=${1:-}
@@ -17,23 +18,10 @@ if [ -n "$source" ]; then
   rustc -C opt-level=3 -C target-cpu=native "$source" -o "$work/baseline" 2>/dev/null && baseline=$work/baseline
 fi
 
-python3 - "$binary" "$baseline" "$runs" <<'PY'
-import os, subprocess, sys
+PYTHONDONTWRITEBYTECODE=1 PYTHONPATH=$top/bench python3 - "$binary" "$baseline" "$runs" <<'PY'
+import sys
+import timing
 ours, baseline, runs = sys.argv[1], sys.argv[2], int(sys.argv[3])
-
-def run(command, text):
-    """The processor seconds and the greatest resident size in MB of one run."""
-    read, write = os.pipe()
-    os.write(write, text)
-    os.close(write)
-    with open(os.devnull, "w") as none:
-        ran = subprocess.Popen(command, stdin=read, stdout=none, stderr=none)
-    os.close(read)
-    _, status, used = os.wait4(ran.pid, 0)
-    ran.returncode = status
-    if status:
-        raise SystemExit(f"{command} ended with {status}")
-    return used.ru_utime + used.ru_stime, used.ru_maxrss / 1000
 
 pages = [(e, n) for e in (2, 3) for n in (14, 16, 18, 20, 24, 28, 30)]
 for e, n in pages:
@@ -41,18 +29,14 @@ for e, n in pages:
     if baseline:
         for mode in ("trie",) if n >= 24 else ("naive", "trie"):
             commands[mode] = ([baseline, str(e), str(n), "--mode", mode, "--print"], b"")
-    best = {name: (float("inf"), 0) for name in commands}
-    for _ in range(min(runs, 3) if n >= 24 else runs):
-        for name, (command, text) in commands.items():
-            taken, memory = run(command, text)
-            best[name] = min(best[name][0], taken), max(best[name][1], memory)
+    best = timing.least(commands, min(runs, 3) if n >= 24 else runs, by="processor")
     told = [f"{name} {seconds:.4f} s {memory:.0f} MB" for name, (seconds, memory) in best.items()]
     told += [f"ratio to {name} {best['program'][0] / best[name][0]:.2f}" for name in commands if name != "program"]
     print(f"e = {e}, n = {n}: " + ", ".join(told), flush=True)
 
 for line in ("crystal 64 30", "block 3 1 9", "row 2 30"):
-    taken, memory = run([ours], line.encode())
-    print(f"{line}: {taken:.3f} s {memory:.0f} MB", flush=True)
+    ran = timing.run([ours], line.encode())
+    print(f"{line}: {ran.processor:.3f} s {ran.memory:.0f} MB", flush=True)
 PY
 
 if command -v valgrind >/dev/null; then
