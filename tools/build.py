@@ -102,9 +102,11 @@ class Lane:
         self.work = None
         os.makedirs(f"{folder}/crates", exist_ok=True)
         shutil.copy2(f"{TOP}/HANDLES", f"{folder}/HANDLES")
-        with open(f"{TOP}/crates.txt", encoding="utf-8") as lines, open(f"{folder}/crates.txt", "w", encoding="utf-8") as out:
+        with open(f"{TOP}/crates.txt", encoding="utf-8") as lines:
             # `rt` stops at a line whose crate has no folder
-            out.writelines(line for line in lines if line.partition(":")[0] in order)
+            kept = [line for line in lines if line.partition(":")[0] in order]
+        with open(f"{folder}/crates.txt", "w", encoding="utf-8") as out:
+            out.writelines(kept)
         for name in order:
             for part in PARTS:
                 here, there = f"{TOP}/crates/{name}/{part}", f"{folder}/crates/{name}/{part}"
@@ -221,7 +223,8 @@ def main():
     if not failed:
         with open(log, "w", encoding="utf-8") as out:
             folder = f"{TOP}/crates/{program}"
-            ran = subprocess.run(["rt", "run"], cwd=folder, stdin=subprocess.DEVNULL, stdout=out, stderr=out, check=False)
+            none = subprocess.DEVNULL
+            ran = subprocess.run(["rt", "run"], cwd=folder, stdin=none, stdout=out, stderr=out, check=False)
         failed = None if os.path.isfile(f"{folder}/out/{program}") and ran.returncode == 0 else (program, log)
     if failed:
         print(f"specht: {failed[0]} does not prove; the whole log is {failed[1]}; its last lines:", file=sys.stderr)

@@ -57,7 +57,9 @@ def read_calls(lines, found):
         if call:
             inside = bool(call.group(1)) and block
             seen = call.group(2) or (inside and kind == "trait" and line.startswith("    fn"))
-            name = (f"{block}::{call.group(3)}" if inside else call.group(3)) if seen and not (inside and is_of_trait) else None
+            name = None
+            if seen and not (inside and is_of_trait):
+                name = f"{block}::{call.group(3)}" if inside else call.group(3)
             if name:
                 found.setdefault(name, set())
         clause = CLAUSE.match(line)
@@ -81,7 +83,8 @@ def sections(text):
 
 def check_proved(wrong):
     with open(f"{TOP}/docs/PROVED.md", encoding="utf-8") as it:
-        told = sections(it.read())
+        # a line may go on in lines that begin with two blanks
+        told = sections(re.sub(r"\n  (?=\S)", " ", it.read()))
     order, clauses = crates(), 0
     if [it for it in told if it in order] != order:
         wrong.append("docs/PROVED.md: the crates do not stand in the order of crates.txt, or one is missing")
