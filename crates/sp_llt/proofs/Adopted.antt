@@ -1,5 +1,6 @@
 -- A listed column that is right and not too large is the row, with its shares; and how the tests tell that it is right.
-use Rattle.std.proofs.Common.{◌≡◌, ◌≢◌, ℕ, ◌<◌, ◌≤◌, Bool, true, false, not, ◌&&◌, ◌||◌, cond, ◌+◌, ◌*◌, List, [], ◌∷◌, ◌++◌, map, reverse}
+use Rattle.std.proofs.Common.{◌≡◌, ◌≢◌, ℕ, ◌<◌, ◌≤◌, Bool, true, false, not, ◌&&◌, ◌||◌, cond, ◌+◌, ◌*◌, List, [], ◌∷◌}
+use Rattle.std.proofs.Common.{◌++◌, map, reverse}
 use Rattle.std.proofs.Common.{refl, sym, ◌∙◌, ap, ap₂, subst, arith, None, Some, sum_by}
 use Rattle.std.proofs.Common.{Ordering, Less, Equal, Greater, le-ltb}
 use Rattle.std.specs.List.{AllByRecursion, find, list_any}
@@ -13,6 +14,8 @@ use Rattle.sp_defs.specs.Laurent.{Laurent, IsLaurent, one, plus, negate, coeffic
 use Rattle.sp_defs.specs.Power.{Vector, FockVector, fock_vector, entries, vector_of, IsVector, greatest}
 use Rattle.sp_defs.specs.Ladder.{ladder_vector, ladder_weight}
 use Rattle.sp_defs.specs.Row.{Factors, combination, regular_row, is_positive, stray, outcome, Row}
+use Rattle.sp_lists.proofs.Finding.{find_none, none_found}
+use Rattle.sp_lists.proofs.Maps.{map-reverse}
 use Rattle.sp_lists.proofs.Elements.{all_map, map_all, all_reverse, reverse_all}
 use Rattle.sp_lists.proofs.Places.{all_weaken}
 use Rattle.sp_lists.proofs.Greatest.{greatest_within, map_within}
@@ -23,7 +26,8 @@ use Rattle.sp_algebra.proofs.Laws.{coefficient-plus, coefficient-negate, IsLaure
 use Rattle.sp_algebra.proofs.Coefficients.{same_laurent}
 use Rattle.sp_fock_law.proofs.Vectors.{entries-alike, entries-vector_of, vector_of-entries, IsLaurent-vector_of}
 use Rattle.sp_row_law.proofs.Setting.{IsLaurent-ladder_vector}
-use Rattle.sp_outcome_law.specs.Asking.{given, total, is_past, given_past, total_past, share_past, next_rank, is_too_large}
+use Rattle.sp_outcome_law.specs.Asking.{given, total, is_past, given_past, total_past, share_past, next_rank}
+use Rattle.sp_outcome_law.specs.Asking.{is_too_large}
 use Rattle.sp_outcome_law.proofs.Decided.{decided_end, total_past_by, row_of}
 use Rattle.sp_outcome_law.proofs.Reached.{next_zero}
 use Rattle.sp_column_law.proofs.Unique.{AreShares, right_shares, right_row}
@@ -37,26 +41,8 @@ use Rattle.sp_llt.specs.Shares.{given_shares, ranked_share}
 use Rattle.sp_llt.specs.Adopting.{AreListedShares, factors_at, listed_weight, IsRightlyListed, left_without}
 use Rattle.sp_llt.proofs.Adopting.{known_shares, ladder_fits, sizes_fit}
 use Rattle.sp_llt.proofs.Labels.{LabelFacts, label_facts, lower_place}
-use Rattle.sp_llt.proofs.Lists.{find_none}
 use Rattle.sp_llt.proofs.Positive.{same_test, test_positive}
 use Rattle.sp_llt.proofs.Strays.{listed_stray}
-
--- where none passes, none is found
-none_found : {X : Type 0} (q : X → Bool) (xs : List X) → AllByRecursion (λ x. q x ≡ false) xs → find q xs ≡ None
-none_found q [] h = refl
-none_found q (x ∷ xs) (h, hs) = tested (q x) h (none_found q xs hs)
-  where
-    tested : (b : Bool) → b ≡ false → find q xs ≡ None → cond b (Some x) (find q xs) ≡ None
-    tested true e ih = absurd (cc)
-    tested false e ih = ih
-
-map-reverse : {X Y : Type 0} (f : X → Y) (xs : List X) → map f (reverse xs) ≡ reverse (map f xs)
-map-reverse f [] = refl
-map-reverse f (x ∷ xs) =
-    ap (map f) (reverse-append (x ∷ []) xs)
-    ∙ map-append f (reverse xs) (x ∷ [])
-    ∙ ap (λ ys. ys ++ (f x ∷ [])) (map-reverse f xs)
-    ∙ sym (reverse-append (f x ∷ []) (map f xs))
 
 -- only positive powers, as the test says it
 positive_test : (p : Laurent) → IsLaurent p → IsPositive p → is_positive p ≡ true
@@ -216,6 +202,7 @@ module _ (key : Key) (k : ℕ) (p : IsPlace (place key k)) (shares : List Share)
     given_is : given e mu 0 ≡ reverse fs
     given_is = right_shares e mu f.is_label fs is_known w (λ lambda _. polynomial lambda) right
 
+    -- the row is the regular row
     pub adopted_row : row ≡ fock_vector n (regular_row e mu)
     adopted_row = ap₂ vector_with same_degree (row_entries ∙ entries-alike n w (regular_row e mu) row_is)
       where
@@ -232,6 +219,7 @@ module _ (key : Key) (k : ℕ) (p : IsPlace (place key k)) (shares : List Share)
         share : ℕ → Laurent → Share
         share r a = record { rank = r; alpha = a }
 
+    -- and the shares are those of the rank
     pub adopted_shares : shares ≡ given_shares e mu 0
     unfolding given_shares
     adopted_shares = sym
@@ -300,6 +288,7 @@ module _ (key : Key) (k : ℕ) (p : IsPlace (place key k)) (shares : List Share)
           ∙ ap₂ (λ b c. b || (c || share_past e key.limit mu (next_rank e mu 0))) no_given no_total
           ∙ ap (share_past e key.limit mu) (next_zero e mu)
 
+      -- then the outcome is the row
       pub adopted_outcome : outcome e key.limit mu ≡ Row
       adopted_outcome = row_of e key.limit mu not_large no_stray_partition
 

@@ -1,6 +1,7 @@
 -- A listed column, share by share: what is left of the ladder vector, and the weight so far.
 use Rattle.std.proofs.Common.{◌≡◌, ◌≢◌, ℕ, zero, suc, ◌+◌, ◌*◌, ◌<◌, ◌≤◌, List, [], ◌∷◌, ◌++◌, map, reverse, length}
-use Rattle.std.proofs.Common.{get_or, take, drop, refl, sym, ◌∙◌, ap, ap₂, subst, arith, sum_by, ℤ, ◌+ℤ◌, unsigned_abs, ◌⊎◌, inl, inr}
+use Rattle.std.proofs.Common.{get_or, take, drop, refl, sym, ◌∙◌, ap, ap₂, subst, arith, sum_by, ℤ, ◌+ℤ◌, unsigned_abs}
+use Rattle.std.proofs.Common.{◌⊎◌, inl, inr}
 use Rattle.std.specs.List.{AllByRecursion}
 use Rattle.std.proofs.lemmas.Int.{ints}
 use Rattle.std.proofs.lemmas.List.{reverse-append, map-append, take-append-drop, take_more}
@@ -16,8 +17,10 @@ use Rattle.sp_lists.proofs.Places.{all_weaken, all_at}
 use Rattle.sp_lists.proofs.Greatest.{greatest_within, within_greatest, map_within, within_map}
 use Rattle.sp_lists.proofs.Occurrence.{at_occurs}
 use Rattle.sp_shapes.proofs.Listing.{all_partitions, each_partition, regulars_ascend}
+use Rattle.sp_shapes.proofs.Order.{ascends_at}
 use Rattle.sp_algebra.proofs.Laws.{coefficient-plus, coefficient-negate, IsLaurent-plus, plus_nought}
 use Rattle.sp_algebra.proofs.Coefficients.{same_laurent}
+use Rattle.sp_algebra.proofs.Sizes.{product_within}
 use Rattle.sp_fock_law.specs.Tally.{TallyValue, tally_of, subtracted, subtraction_weight, grown_total, total_of}
 use Rattle.sp_fock_law.proofs.Vectors.{entries-alike, vector_of-entries}
 use Rattle.sp_fock_law.proofs.Totals.{total_of-totals}
@@ -34,7 +37,9 @@ use Rattle.sp_column_law.proofs.Unique.{AreShares}
 use Rattle.sp_core.specs.declared.piece.Key.{Key}
 use Rattle.sp_llt.specs.declared.share.Share.{Share}
 use Rattle.sp_llt.specs.Place.{IsPlace, place, label, labels}
-use Rattle.sp_llt.specs.Adopting.{Falling, AreListedShares, factors_at, left_without, tally_without, IsLeft, listed_powers}
+use Rattle.sp_llt.specs.Reached.{ladder_tally}
+use Rattle.sp_llt.specs.Adopting.{Falling, AreListedShares, factors_at, left_without, tally_without, IsLeft}
+use Rattle.sp_llt.specs.Adopting.{listed_powers}
 use Rattle.sp_llt.proofs.Labels.{LabelFacts, label_facts, lower_place}
 use Rattle.sp_llt.proofs.Tallies.{negate_times}
 use Rattle.sp_llt.proofs.Positive.{nothing}
@@ -45,14 +50,6 @@ unfolding combination sum_over
 no_sum A lambda j = refl
 
 -- ---- the shares of a listed row
-
-ascends_at : (list : List (List ℕ)) → Ascending list → (i j : ℕ) → i < j → j < length list →
-    IsEarlier (get_or list i []) (get_or list j [])
-ascends_at [] h i j lt within = absurd (omega arith)
-ascends_at (p ∷ list) h zero zero lt within = absurd (omega arith)
-ascends_at (p ∷ list) h (suc i) zero lt within = absurd (omega arith)
-ascends_at (p ∷ list) (h, hs) zero (suc j) lt within = all_at (IsEarlier p) list j [] h (omega arith)
-ascends_at (p ∷ list) (h, hs) (suc i) (suc j) lt within = ascends_at list hs i j (omega arith) (omega arith)
 
 -- one more at the end, later than all others
 ascending_more : (xs : List (List ℕ)) (x : List ℕ) → Ascending xs → AllByRecursion (λ y. IsEarlier y x) xs →
@@ -104,6 +101,7 @@ module _ (key : Key) (k : ℕ) (p : IsPlace (place key k)) where
       earlier (t ∷ ts) (_, ls) (lt, gs) =
           (ascends_at (labels key) (regulars_ascend e n) t.rank s.rank lt (omega (arith, p.rank, l)), earlier ts ls gs)
 
+  -- listed shares are known to be shares of a column of mu
   pub known_shares : (shares : List Share) → AreListedShares k shares → AreShares e mu (factors_at key shares)
   known_shares shares h = record {
     before =
@@ -134,10 +132,12 @@ module _ (key : Key) (k : ℕ) (p : IsPlace (place key k)) where
       (all_partitions (degree mu)))) in
       omega arith
 
+  -- the ladder weight is within a limit that the weight of the column is within
   pub ladder_fits : (limit : ℕ) (fs : Factors) → weight_with fs ≤ limit → ladder_weight e mu ≤ limit
   unfolding column_weight
   ladder_fits limit fs le = omega (arith, le)
 
+  -- so is what the column sums up to at each partition
   pub sizes_fit : (limit : ℕ) (fs : Factors) → weight_with fs ≤ limit → (lambda : List ℕ) → IsPartitionOf n lambda →
       size_with fs lambda ≤ limit
   unfolding column_weight
@@ -197,8 +197,9 @@ module _ (key : Key) (k : ℕ) (p : IsPlace (place key k)) where
   none_sized : (lambda : List ℕ) → size_with [] lambda ≡ size (ladder_vector e mu lambda)
   none_sized lambda = omega arith
 
+  -- at the start the ladder vector is left
   pub left_at_start : ladder_weight e mu ≤ key.limit →
-      IsLeft key mu [] (tally_of (fock_vector (degree mu) (ladder_vector e mu)))
+      IsLeft key mu [] (ladder_tally e mu)
   left_at_start w = record {
     tally =
         ap (λ d. tally_of (fock_vector d (ladder_vector e mu))) f.total
@@ -279,6 +280,7 @@ module _ (key : Key) (k : ℕ) (p : IsPlace (place key k)) where
         grown_total slots alpha row lambda ≡ size_with more lambda
     weight_grown lambda h = ap (λ t. grown_total t alpha row lambda) left.tally ∙ more_sized lambda h
 
+    -- one share more is taken off
     pub left_more : subtraction_weight slots alpha row ≤ key.limit → IsLeft key mu more (subtracted slots alpha row)
     left_more small = record {
       tally =
@@ -334,16 +336,6 @@ module _ (key : Key) (k : ℕ) (p : IsPlace (place key k)) where
       (sizes_fit key.limit fs left.fits lambda here))
 
 -- ---- powers
-
--- the powers of a product
-pub product_within : (a b d : ℕ) (p q : Laurent) → a + b ≤ d → PowersWithin a p → PowersWithin b q → ProductWithin d p q
-product_within a b d p q le hp hq =
-    all_weaken (λ s. unsigned_abs s.0 ≤ a) (λ s. AllByRecursion (λ t. unsigned_abs (s.0 +ℤ t.0) ≤ d) q) p
-    (λ s hs. all_weaken (λ t. unsigned_abs t.0 ≤ b) (λ t. unsigned_abs (s.0 +ℤ t.0) ≤ d) q
-    (λ t ht. sum_within s.0 t.0 hs ht) hq) hp
-  where
-    sum_within : (x y : ℤ) → unsigned_abs x ≤ a → unsigned_abs y ≤ b → unsigned_abs (x +ℤ y) ≤ d
-    sum_within x y hx hy = omega (arith, ints, le)
 
 -- a listed share times an earlier row
 pub listed_product : (key : Key) (j : ℕ) (alpha : Laurent) → IsPlace (place key j) → PowersWithin listed_powers alpha →

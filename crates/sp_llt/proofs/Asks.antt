@@ -30,6 +30,7 @@ pub record IsNextShare (e : ℕ) (mu : List ℕ) (t : ℕ) (next : Share) : Type
 
 -- ---- the next rank
 
+-- What is known of rank j, whose share comes next after those from rank t on.
 pub record NextFacts (key : Key) (rank t j : ℕ) : Type 0 where
   pub lower : j < t
   pub earlier : j < rank
@@ -40,6 +41,7 @@ module _ (key : Key) (rank : ℕ) (p : IsPlace (place key rank)) where
   f : LabelFacts key rank
   f = label_facts key rank p
 
+  -- the next rank is an earlier one, and its label is that of the share
   pub next_facts : (t j : ℕ) → next_rank key.e (label key rank) t ≡ Some j → NextFacts key rank t j
   next_facts t j h = record {
     lower = n.lower;
@@ -88,6 +90,7 @@ module _ (key : Key) (rank : ℕ) (p : IsPlace (place key rank)) where
   within_rank : (t : ℕ) → t ≤ rank → t ≤ length (earlier key.e (label key rank))
   within_rank t le = omega (arith, f.count, le)
 
+  -- where no rank below t has a lift, none is next
   pub none_found : (t : ℕ) → t ≤ rank →
       NoLift (vector_of (entries key.degree (left key.e (label key rank) t))) (labels key) 0 t →
       next_rank key.e (label key rank) t ≡ None
@@ -109,6 +112,7 @@ module _ (key : Key) (rank : ℕ) (p : IsPlace (place key rank)) where
       ap (λ a. a.1) (next_share_at key.e (label key rank) f.is_label t j [] (within_rank t le) h)
       ∙ sym (lift_here t j (omega (arith, p.rank, lt, le)))
 
+  -- the last rank below t that has a lift is next, with this share
   pub some_found : (t limit : ℕ) (s : Share) → t ≤ rank →
       IsLastLift (vector_of (entries key.degree (left key.e (label key rank) t))) (labels key) t limit s →
       IsNextShare key.e (label key rank) t s
@@ -116,6 +120,7 @@ module _ (key : Key) (rank : ℕ) (p : IsPlace (place key rank)) where
       let next = next_at t s.rank le h.below (λ z. h.nonzero (h.alpha ∙ z)) h.others in
       record { rank = next; alpha = h.alpha ∙ sym (share_is t s.rank le h.below next) }
 
+  -- where this lift is too large, the share is past the limit
   pub large_found : (t j : ℕ) → t ≤ rank →
       IsLargeLift (vector_of (entries key.degree (left key.e (label key rank) t))) (labels key) t key.limit j →
       share_past key.e key.limit (label key rank) (next_rank key.e (label key rank) t) ≡ true
@@ -133,11 +138,13 @@ module _ (key : Key) (rank : ℕ) (p : IsPlace (place key rank)) where
 
 -- ---- with a next share within the limit nothing is past it
 
+-- where none is next, the rank isn't past the limit
 pub none_undecided : (key : Key) (mu : List ℕ) (t : ℕ) → IsWithin key mu t → next_rank key.e mu t ≡ None →
     is_past key.e key.limit mu t ≡ false
 unfolding share_past
 none_undecided key mu t h n = h ∙ ap (share_past key.e key.limit mu) n
 
+-- nor where the next share is within it
 pub some_undecided : (key : Key) (mu : List ℕ) (t j : ℕ) → IsWithin key mu t → next_rank key.e mu t ≡ Some j →
     size (share_at key.e mu j).1 ≤ key.limit → is_past key.e key.limit mu t ≡ false
 unfolding share_past
@@ -158,10 +165,13 @@ module _ (key : Key) (rank t : ℕ) (slots : TallyValue) (rs : List (List ℕ)) 
       subst (P (vector_of (entries key.degree (left key.e (label key rank) t)))) same
       (subst (λ (s : TallyValue). P (vector_of s.vector.entries) rs) is h)
 
+  -- where no rank has a lift in the slots, none is next
   pub none_next : NoLift (vector_of slots.vector.entries) rs 0 t → next_rank key.e (label key rank) t ≡ None
   none_next h = none_found key rank p.place t p.reached (here (λ v xs. NoLift v xs 0 t) h)
 
-  pub open_found : (kept : Unfinished) → kept.slots ≡ slots → kept.shares.items ≡ given_shares key.e (label key rank) t →
+  -- a share found in the slots leaves the builder open
+  pub open_found : (kept : Unfinished) → kept.slots ≡ slots →
+      kept.shares.items ≡ given_shares key.e (label key rank) t →
       IsLastLift (vector_of slots.vector.entries) rs t key.limit kept.next → IsOpen key (label key rank) t kept
   open_found kept own shares h = record {
     undecided =
@@ -176,6 +186,7 @@ module _ (key : Key) (rank t : ℕ) (slots : TallyValue) (rs : List (List ℕ)) 
       n = some_found key rank p.place t key.limit kept.next p.reached
           (here (λ v xs. IsLastLift v xs t key.limit kept.next) h)
 
+  -- a lift that is too large puts the rank past the limit
   pub past_found : (j : ℕ) × IsLargeLift (vector_of slots.vector.entries) rs t key.limit j →
       is_past key.e key.limit (label key rank) t ≡ true
   past_found (j, large) =

@@ -4,6 +4,7 @@ use Rattle.sp_defs.specs.Laurent.{IsPositive}
 use Rattle.sp_row_law.proofs.RowsLaw.{rows_law}
 use Rattle.sp_llt.specs.Existence.{RowsAreRegular}
 
+-- where there is a row, it is the regular row
 pub rows_are_regular : RowsAreRegular
 rows_are_regular e mu label w row =
     let facts = rows_law e mu label in

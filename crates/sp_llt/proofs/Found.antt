@@ -40,6 +40,7 @@ module _ (key : Key) (rank : ℕ) (p : IsPlace (place key rank)) where
   unfolding given_shares
   all_given t h = ap (λ fs. reverse (map (ranked_share key.e) fs)) (sym (all_passed key.e mu t h).same_given)
 
+  -- what is left once no rank is next is the whole outcome
   pub whole : (t : ℕ) (row : FockVector) (given : List Share) (at : Option (List ℕ)) →
       is_past key.e key.limit mu t ≡ false → next_rank key.e mu t ≡ None → row ≡ (tally_at key mu t).vector →
       given ≡ given_shares key.e mu t →

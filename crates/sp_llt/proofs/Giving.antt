@@ -26,11 +26,13 @@ use Rattle.sp_llt.proofs.Labels.{LabelFacts, label_facts, lower_place}
 
 -- ---- the outcomes
 
+-- an outcome other than `TooLarge` is not said to be too large
 pub other_outcome : (o : Outcome) → o ≢ TooLarge → is_too_large o ≡ false
 other_outcome TooLarge h = absurd (h refl)
 other_outcome (Stray lambda) h = refl
 other_outcome Row h = refl
 
+-- what is not greater is at most
 pub at_most : (m n : ℕ) → (m < n → ⊥) → n ≤ m
 at_most m n h = omega (arith, h)
 
@@ -43,6 +45,7 @@ pub record NextShare (key : Key) (rank : ℕ) (kept : Unfinished) : Type 0 where
   pub progress : IsProgress (progress key rank kept.next.rank)
   pub count : length (earlier key.e (label key kept.next.rank)) ≡ kept.next.rank
 
+-- an open builder keeps the share whose row comes next
 pub next_share : (key : Key) (rank t : ℕ) (kept : Unfinished) → IsPlace (place key rank) →
     IsOpen key (label key rank) t kept → NextShare key rank kept
 next_share key rank t kept p is = record {
@@ -71,6 +74,7 @@ module _ (b : Progress) (key : Key) (rank t : ℕ) (state : State) (entry : Plac
       let none : None ≡ Some entry.rank = sym (told_decided key rank t state kept builder is).none ∙ here in cc
 
   module _ (kept : Unfinished) (is : state ≡ Open kept) where
+    -- the builder is open with what it keeps
     pub opened : IsOpen key (label key rank) t kept
     opened = told_open key rank t state kept builder is
 
@@ -88,6 +92,7 @@ module _ (b : Progress) (key : Key) (rank t : ℕ) (state : State) (entry : Plac
 
 -- ---- the powers in the product of a share and its row
 
+-- the powers of a share times an earlier row fit
 pub product_fits : (key : Key) (rank j : ℕ) (nu : List ℕ) (alpha : Laurent) → IsPlace (place key rank) → j < rank →
     share_at key.e (label key rank) j ≡ (nu, alpha) →
     AllByRecursion (λ t. ProductWithin power_limit alpha t.1) (entries key.degree (regular_row key.e nu))

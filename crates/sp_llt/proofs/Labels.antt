@@ -11,12 +11,14 @@ use Rattle.sp_core.specs.declared.piece.Key.{Key}
 use Rattle.sp_llt.specs.Place.{IsKey, IsPlace, place, label, labels}
 use Rattle.sp_row_bounds.proofs.Ranks.{count_law}
 
+-- What is known of the e-regular partition of a rank.
 pub record LabelFacts (key : Key) (rank : ℕ) : Type 0 where
   pub regular : IsRegularOf key.e key.degree (label key rank)
   pub is_label : IsLabel key.e (label key rank)
   pub total : degree (label key rank) ≡ key.degree
   pub count : length (earlier key.e (label key rank)) ≡ rank
 
+-- all this holds of each rank
 pub label_facts : (key : Key) (rank : ℕ) → IsPlace (place key rank) → LabelFacts key rank
 label_facts key rank p = record {
   regular = regular;
@@ -27,6 +29,10 @@ label_facts key rank p = record {
   where
     regular : IsRegularOf key.e key.degree (label key rank)
     regular = all_at (IsRegularOf key.e key.degree) (labels key) rank [] (all_regulars key.e key.degree) p.rank
+
+-- the key, and the partition of the rank
+pub place_of : (key : Key) (rank : ℕ) → IsKey key → rank < length (labels key) → IsPlace (place key rank)
+place_of key rank h lt = record { key = h; rank = lt }
 
 -- a lower rank is one too
 pub lower_place : (key : Key) (rank j : ℕ) → IsPlace (place key rank) → j < rank → IsPlace (place key j)
@@ -45,9 +51,11 @@ read_label key rank rs mu same lt at =
 
 -- ---- how many there are
 
+-- each key has an e-regular partition
 pub some_labels : (key : Key) → IsKey key → 1 ≤ length (labels key)
 some_labels key h = count_law.some_regular key.e key.degree h.e_least
 
+-- and at most 5,604
 pub few_labels : (key : Key) → IsKey key → length (labels key) ≤ 5604
 few_labels key h =
     omega (

@@ -54,6 +54,7 @@ module _ (key : Key) (rank : ℕ) (p : IsPlace (place key rank)) where
       f.total
       (row_entries e mu (row_powers (place key rank)) f.is_label (omega (arith, bound_is)))
 
+  -- the entries of the regular row obey the law of rows
   pub obeys_row : ObeysRowLaw (place key rank) (entries n (regular_row e mu))
   obeys_row = record {
     at_mu =
@@ -97,6 +98,7 @@ module _ (key : Key) (rank : ℕ) (p : IsPlace (place key rank)) where
       count : length (earlier e a.0) ≡ j
       count = ap (λ nu. length (earlier e nu)) at ∙ (label_facts key j (lower_place key rank j p low)).count
 
+  -- the shares obey the law of shares
   pub obey_shares : AllByRecursion (ObeysShareLaw (place key rank)) (given_shares e mu 0)
   unfolding given_shares given
   obey_shares =

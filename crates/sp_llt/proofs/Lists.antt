@@ -5,12 +5,12 @@ use Rattle.std.proofs.Common.{refl, ◌∙◌, ap, Option, Some, None}
 use Rattle.std.specs.List.{AllByRecursion, find}
 use Rattle.std.proofs.lemmas.List.{reverse-append}
 
--- ---- the last that passes
-
+-- the first of two finds
 abbrev pub found_first : {X : Type 0} → Option X → Option X → Option X
 found_first None o = o
 found_first (Some x) o = Some x
 
+-- an element alone, if it passes
 abbrev pub if_passes : {X : Type 0} → (X → Bool) → X → Option X
 if_passes q x = cond (q x) (Some x) None
 
@@ -23,16 +23,7 @@ find-append q (x ∷ xs) ys = tested (q x) (find-append q xs ys)
     tested true ih = refl
     tested false ih = ih
 
+-- of one more element at the front, the last that passes
 pub find_back : {X : Type 0} (q : X → Bool) (x : X) (xs : List X) →
     find q (reverse (x ∷ xs)) ≡ found_first (find q (reverse xs)) (if_passes q x)
 find_back q x xs = ap (find q) (reverse-append (x ∷ []) xs) ∙ find-append q (reverse xs) (x ∷ [])
-
--- where none is found, none passes
-pub find_none : {X : Type 0} (q : X → Bool) (xs : List X) → find q xs ≡ None → AllByRecursion (λ x. q x ≡ false) xs
-find_none q [] h = tt
-find_none q (x ∷ xs) h = tested (q x) refl (find_none q xs) h
-  where
-    tested : (b : Bool) → q x ≡ b → (find q xs ≡ None → AllByRecursion (λ x. q x ≡ false) xs) →
-        cond b (Some x) (find q xs) ≡ None → (q x ≡ false) × AllByRecursion (λ x. q x ≡ false) xs
-    tested true e ih h = absurd (cc)
-    tested false e ih h = (e, ih h)

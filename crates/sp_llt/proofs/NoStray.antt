@@ -19,7 +19,7 @@ use Rattle.sp_triangle.proofs.Shares.{from_keys}
 use Rattle.sp_ladder_law.proofs.LadderLaw.{ladder_law}
 use Rattle.sp_row_law.proofs.RowsLaw.{rows_law}
 use Rattle.sp_lists.proofs.Elements.{reverse_all}
-use Rattle.sp_llt.proofs.Lists.{find_none}
+use Rattle.sp_lists.proofs.Finding.{find_none}
 use Rattle.sp_llt.proofs.Positive.{test_positive, nothing}
 
 module _ (e : ℕ) (mu : List ℕ) (is : IsLabel e mu) where
@@ -65,6 +65,7 @@ module _ (e : ℕ) (mu : List ℕ) (is : IsLabel e mu) where
       settle Greater e false h = absurd (cc)
       settle Equal e false h = absurd (other (same_lists lambda mu e))
 
+  -- where no partition is stray, the regular row is the row
   pub row_without_stray : stray e mu ≡ None → IsRow e mu (regular_row e mu)
   row_without_stray h = record {
     in_span = (rows_law e mu is).in_span;

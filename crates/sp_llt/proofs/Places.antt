@@ -18,6 +18,7 @@ pub record AreFound (e : ℕ) (all : List (List ℕ)) (k : ℕ) (found : List (L
   pub within : AllByRecursion (λ i. i < length all) places
   pub at : partitions_at all places ≡ found
 
+-- nothing is found before the first place
 pub found_none : (e : ℕ) (all : List (List ℕ)) → AreFound e all 0 [] []
 found_none e all = record { regulars = refl; within = tt; at = refl }
 

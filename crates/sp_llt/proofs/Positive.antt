@@ -22,10 +22,12 @@ negate_nought : negate [] ≡ []
 unfolding negate collect
 negate_nought = refl
 
+-- 0 has no coefficient
 pub nothing : (j : ℤ) → coefficient [] j ≡ pos 0
 unfolding coefficient
 nothing j = refl
 
+-- where only positive powers occur, the lift is 0
 pub positive_lift : (p : Laurent) → IsPositive p → lift p ≡ []
 positive_lift p h = sym (lift_unique p [] bar_nought
     (λ j low.
@@ -38,6 +40,7 @@ positive_lift p h = sym (lift_unique p [] bar_nought
       nothing j,
     )))
 
+-- and the other way round
 pub lift_positive : (p : Laurent) → lift p ≡ [] → IsPositive p
 lift_positive p z j low = sym (lift-low p j low) ∙ ap (λ q. coefficient q j) z ∙ nothing j
 
@@ -75,6 +78,7 @@ positive_test ((k, c) ∷ p) (ne, (a, h)) positive =
     let lt = first_positive k c p (ne, (a, h)) positive in
     all_above ((k, c) ∷ p) (lt, Above-lower (pos 0) k p lt a)
 
+-- what passes the test has only positive powers
 pub test_positive : (p : Laurent) → is_positive p ≡ true → IsPositive p
 test_positive p e = positive_above p (above_all p e)
 

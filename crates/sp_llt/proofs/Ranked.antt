@@ -1,5 +1,6 @@
 -- A search by halves for the entry of a rank.
-use Rattle.std.proofs.Common.{◌≡◌, ◌≢◌, ℕ, zero, suc, ◌<◌, ◌≤◌, List, [], ◌∷◌, map, length, get_or, sym, ◌∙◌, ap, ap₂, subst}
+use Rattle.std.proofs.Common.{◌≡◌, ◌≢◌, ℕ, zero, suc, ◌<◌, ◌≤◌, List, [], ◌∷◌, map, length, get_or, sym, ◌∙◌, ap, ap₂}
+use Rattle.std.proofs.Common.{subst}
 use Rattle.std.proofs.Common.{arith, Ordering, Less, Equal, Greater, Ok, Err, nat_cmp, inl, inr}
 use Rattle.std.specs.List.{AllByRecursion}
 use Rattle.std.specs.List.Sorted.{IsBinarySearchResult, IsNonDecreasingBy}
@@ -7,6 +8,7 @@ use Rattle.std.specs.Ordering.{MatchOrdering, ordering_index}
 use Rattle.std.specs.Cmp.{ranks}
 use Rattle.std.proofs.lemmas.Bool.{cases_lt}
 use Rattle.std.proofs.lemmas.Bool.Decides.{nat_tests}
+use Rattle.sp_lists.proofs.Comparing.{ranked, comparison_rises}
 use Rattle.sp_lists.proofs.Elements.{map_all}
 use Rattle.sp_lists.proofs.Places.{all_at, all_weaken}
 use Rattle.sp_lists.proofs.Occurrence.{Occurs, occurs}
@@ -17,6 +19,7 @@ use Rattle.sp_llt.specs.Place.{Place, place}
 use Rattle.sp_llt.specs.Refusals.{outcome_at}
 use Rattle.sp_llt.specs.Adopting.{Rising, AreEarlierRows, HasRank}
 
+-- the ranks of entries
 abbrev pub ranks_of : List Place → List ℕ
 ranks_of ps = map (λ p. p.rank) ps
 
@@ -30,9 +33,6 @@ rising_at (p ∷ ps) (h, hs) zero (suc j) d lt within =
     all_at (λ q. p.rank < q.rank) ps j d (map_all (λ k. p.rank < k) (λ q. q.rank) ps h) (omega arith)
 rising_at (p ∷ ps) (h, hs) (suc i) (suc j) d lt within = rising_at ps hs i j d (omega arith) (omega arith)
 
-comparison_rises : (a b rank : ℕ) → a ≤ b → ordering_index (nat_cmp a rank) ≤ ordering_index (nat_cmp b rank)
-comparison_rises a b rank le = grind (arith, nat_tests)
-
 comparisons_rise : (ps : List Place) → Rising (ranks_of ps) → (rank : ℕ) →
     IsNonDecreasingBy (λ p. ordering_index (nat_cmp p.rank rank)) ps
 comparisons_rise ps h rank i k d le in_range = elim (cases_lt i k) [
@@ -41,9 +41,6 @@ comparisons_rise ps h rank i k d le in_range = elim (cases_lt i k) [
   | inr ge ↦ subst (λ n. ordering_index (nat_cmp (get_or ps i d).rank rank) ≤ ordering_index
       (nat_cmp (get_or ps n d).rank rank)) {x = i} (omega arith) (omega arith)
 ]
-
-ranked : (a b : ℕ) (o : Ordering) → nat_cmp a b ≡ o → MatchOrdering o (a < b) (a ≡ b) (b < a)
-ranked a b o e = subst (λ x. MatchOrdering x (a < b) (a ≡ b) (b < a)) e (ranks a b)
 
 -- a rank that is found is the rank
 pub found_rank : (ps : List Place) (rank i : ℕ) (d : Place) →

@@ -17,6 +17,7 @@ use Rattle.sp_llt.specs.Search.{is_stray_entry}
 
 -- ---- two tests of two partitions
 
+-- a test that tells two lists apart says that one is before the other
 pub told_other : (xs ys : List ℕ) (b : Bool) → b ≡ not (pointwise nat_eq xs ys) → b ≡ not (is_eq (compare xs ys))
 told_other xs ys b h = h ∙ ap not (same_equality xs ys)
 
@@ -36,6 +37,7 @@ module _ (mu : List ℕ) (w : Vector) where
       never true = refl
       never false = refl
 
+  -- the last stray entry of the listed ones is the last stray partition
   pub listed_stray : (xs : List (List ℕ)) →
       option_map (λ t. t.0) (find (is_stray_entry mu) (reverse (listed xs))) ≡ find is_stray (reverse xs)
   listed_stray [] = refl

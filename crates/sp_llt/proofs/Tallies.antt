@@ -4,6 +4,8 @@ use Rattle.std.proofs.Common.{[], ◌∷◌, ◌++◌, map, length}
 use Rattle.std.proofs.Common.{reverse, refl, sym, ◌∙◌, ap, ap₂, arith, Some, nat_lt, lt-ltb, le-ltb, ℤ}
 use Rattle.std.proofs.Common.{inl, inr, subst}
 use Rattle.std.proofs.lemmas.Int.{ints}
+use Rattle.std.proofs.Math.Bool.{or-true}
+use Rattle.std.proofs.lemmas.Bool.{or_parts}
 use Rattle.std.proofs.lemmas.List.{reverse-append}
 use Rattle.sp_defs.specs.Partition.{degree, partitions, IsPartitionOf}
 use Rattle.sp_defs.specs.Laurent.{Laurent, coefficient, plus, negate, times, size}
@@ -34,7 +36,7 @@ use Rattle.sp_core.specs.declared.piece.Key.{Key}
 use Rattle.sp_llt.specs.declared.share.Share.{Share}
 use Rattle.sp_llt.specs.Place.{IsPlace, place, label}
 use Rattle.sp_llt.specs.Shares.{given_shares, ranked_share}
-use Rattle.sp_llt.specs.Reached.{tally_at, IsWithin}
+use Rattle.sp_llt.specs.Reached.{ladder_tally, tally_at, IsWithin}
 use Rattle.sp_llt.proofs.Positive.{nothing}
 use Rattle.sp_llt.proofs.Labels.{LabelFacts, label_facts}
 
@@ -86,7 +88,8 @@ module _ (key : Key) (rank : ℕ) (p : IsPlace (place key rank)) where
 
   -- ---- at the start
 
-  pub tally_start : tally_of (fock_vector (degree mu) (ladder_vector e mu)) ≡ tally_at key mu rank
+  -- the ladder vector's tally is that of mu's own rank
+  pub tally_start : ladder_tally e mu ≡ tally_at key mu rank
   tally_start =
       ap (λ d. tally_of (fock_vector d (ladder_vector e mu))) f.total
       ∙ ap₂ (λ es ts. tally_value (record { degree = n; entries = es }) ts)
@@ -96,6 +99,7 @@ module _ (key : Key) (rank : ℕ) (p : IsPlace (place key rank)) where
       ap (λ q. size q) (vector_of-entries n (ladder_vector e mu) lambda h)
       ∙ sym (total_start e mu rank start lambda)))
 
+  -- no share is given at the start
   pub shares_start : [] ≡ given_shares e mu rank
   unfolding given_shares
   shares_start =
@@ -105,11 +109,13 @@ module _ (key : Key) (rank : ℕ) (p : IsPlace (place key rank)) where
         length_shares e mu,
       ))))
 
+  -- nothing is past the limit at the start, where the ladder weight is within it
   pub within_start : ladder_weight e mu ≤ key.limit → IsWithin key mu rank
   within_start le =
       past_start e key.limit mu f.is_label rank start
       ∙ ap (λ b. b || share_past e key.limit mu (next_rank e mu rank)) (le-ltb key.limit (ladder_weight e mu) le)
 
+  -- and the rank is past the limit where the ladder weight is
   pub past_at_start : key.limit < ladder_weight e mu → is_past e key.limit mu rank ≡ true
   past_at_start lt =
       past_start e key.limit mu f.is_label rank start
@@ -128,14 +134,10 @@ module _ (key : Key) (rank : ℕ) (p : IsPlace (place key rank)) where
       (within_map (total e mu t) key.limit (partitions n)
       (within_greatest key.limit (map (total e mu t) (partitions n)) small)))
     where
-      neither : (a b : Bool) → (a || b) ≡ false → (a ≡ false) × (b ≡ false)
-      neither true b w = absurd (cc)
-      neither false b w = (refl, w)
-
       none : total_past e key.limit mu t ≡ false
       none =
-          (neither (total_past e key.limit mu t) (share_past e key.limit mu (next_rank e mu t))
-          (neither (given_past e key.limit mu t) _ (neither (nat_lt key.limit (ladder_weight e mu)) _ h).1).1).0
+          (or_parts (total_past e key.limit mu t) (share_past e key.limit mu (next_rank e mu t))
+          (or_parts (given_past e key.limit mu t) _ (or_parts (nat_lt key.limit (ladder_weight e mu)) _ h).1).1).0
 
       greatest_total : ℕ
       greatest_total = greatest (map (total e mu t) (partitions n))
@@ -178,6 +180,7 @@ module _ (key : Key) (rank : ℕ) (p : IsPlace (place key rank)) where
         (left_step e mu t j next lambda
         ∙ ap (λ a. plus (left e mu t lambda) (negate (times a.1 (regular_row e a.0 lambda)))) is)
 
+    -- the tally after the next row is taken off
     pub tally_step : subtracted (tally_at key mu t) alpha row ≡ tally_at key mu j
     tally_step =
         ap₂ (λ es ts. tally_value (record { degree = n; entries = es }) ts)
@@ -207,24 +210,23 @@ module _ (key : Key) (rank : ℕ) (p : IsPlace (place key rank)) where
         is_too_large (outcome e key.limit a.0)
         || (total_past e key.limit mu j || share_past e key.limit mu (next_rank e mu j))) is
 
+    -- the rank is past the limit where the next row is too large
     pub past_row : is_past e key.limit mu t ≡ false → is_too_large (outcome e key.limit nu) ≡ true →
         is_past e key.limit mu j ≡ true
     past_row h large =
         reasons h
         ∙ ap (λ b. b || (total_past e key.limit mu j || share_past e key.limit mu (next_rank e mu j))) large
 
+    -- or where a total gets too large
     pub past_totals : is_past e key.limit mu t ≡ false →
         key.limit < subtraction_weight (tally_at key mu t) alpha row → is_past e key.limit mu j ≡ true
     past_totals h large =
         reasons h
         ∙ ap (λ b. is_too_large (outcome e key.limit nu) || (b || share_past e key.limit mu (next_rank e mu j)))
         (weight_step ∙ lt-ltb key.limit (subtraction_weight (tally_at key mu t) alpha row) large)
-        ∙ always (is_too_large (outcome e key.limit nu))
-      where
-        always : (b : Bool) → (b || true) ≡ true
-        always true = refl
-        always false = refl
+        ∙ or-true (is_too_large (outcome e key.limit nu))
 
+    -- and within it where neither is so
     pub within_step : is_past e key.limit mu t ≡ false → is_too_large (outcome e key.limit nu) ≡ false →
         subtraction_weight (tally_at key mu t) alpha row ≤ key.limit → IsWithin key mu j
     within_step h fits small =
@@ -232,6 +234,7 @@ module _ (key : Key) (rank : ℕ) (p : IsPlace (place key rank)) where
         ∙ ap₂ (λ a b. a || (b || share_past e key.limit mu (next_rank e mu j))) fits
         (weight_step ∙ le-ltb key.limit (subtraction_weight (tally_at key mu t) alpha row) small)
 
+    -- the shares given then are those before and the next one
     pub shares_step : length (earlier e nu) ≡ j →
         given_shares e mu t ++ (record { rank = j; alpha = alpha } ∷ []) ≡ given_shares e mu j
     unfolding given_shares

@@ -1,9 +1,11 @@
 -- What a builder keeps of its row.
 use Rattle.std.specs.Prelude.{◌≡◌, ℕ, false, List, None, Some}
 use Rattle.sp_defs.specs.Power.{FockVector, fock_vector}
+use Rattle.sp_defs.specs.Ladder.{ladder_vector}
+use Rattle.sp_defs.specs.Partition.{degree}
 use Rattle.sp_defs.specs.Row.{regular_row}
 use Rattle.sp_core.specs.declared.piece.Key.{Key}
-use Rattle.sp_fock_law.specs.Tally.{TallyValue, totals}
+use Rattle.sp_fock_law.specs.Tally.{TallyValue, tally_of, totals}
 use Rattle.sp_outcome_law.specs.Asking.{share_at, next_rank, left, total, share_past, is_past, asked}
 use Rattle.sp_llt.specs.declared.entry.Found.{Found}
 use Rattle.sp_llt.specs.declared.builder.Unfinished.{Unfinished}
@@ -12,6 +14,10 @@ use Rattle.sp_llt.specs.declared.builder.State.TheVariants.{Open, Decided}
 use Rattle.sp_llt.specs.Found.{IsFound}
 use Rattle.sp_llt.specs.Place.{Place, label, progress, IsProgress}
 use Rattle.sp_llt.specs.Shares.{given_shares}
+
+-- The ladder vector, with the sizes of its coefficients.
+abbrev pub ladder_tally : ℕ → List ℕ → TallyValue
+ladder_tally e mu = tally_of (fock_vector (degree mu) (ladder_vector e mu))
 
 -- What is left of the ladder vector, with the sizes of all that was added up.
 abbrev pub tally_at : Key → List ℕ → ℕ → TallyValue

@@ -13,12 +13,12 @@ ghost use Rattle.sp_llt.specs.Refusals.{outcome_at};
 ghost use Rattle.sp_llt.specs.Shares.{given_shares};
 
 use crate::entry::Found;
+use crate::ladder::ladder_slots;
 use crate::same::{is_one, is_same_vector};
 use crate::search::stray_in;
 use crate::{AdoptFault, Ctx, Entry, Share};
 use sp_core::Piece;
 use sp_fock::{FockFault, Vector};
-use sp_ladder::ladder_vector;
 use sp_partition::Partition;
 use sp_power::PowerFault;
 use sp_slots::{Indexed, Slots};
@@ -41,11 +41,11 @@ impl Entry {
 
     /// The entry of a rank, from its listed row and the shares of earlier rows in its ladder vector.
     ///
-    /// `shares` have ranks below `k`, strictly descending, and aren't 0. `earlier` are entries of this context that have
-    /// rows, by strictly ascending ranks below `k`, among them that of each share. It is refused as too large where a
-    /// coefficient of a partial ladder vector passes the limit or, at some partition, the size of the ladder vector's
-    /// coefficient and the products of the sizes of the shares and of their rows' coefficients sum up to more. Otherwise
-    /// it is wrong where the row or the shares aren't those of the rank.
+    /// `shares` have ranks below `k`, strictly descending, and aren't 0. `earlier` are entries of this context that
+    /// have rows, by strictly ascending ranks below `k`, among them that of each share. It is refused as too large where
+    /// a coefficient of a partial ladder vector passes the limit or, at some partition, the size of the ladder vector's
+    /// coefficient and the products of the sizes of the shares and of their rows' coefficients sum up to more.
+    /// Otherwise it is wrong where the row or the shares aren't those of the rank.
     pub fn adopt(
         alloc: Global,
         ctx: &Ctx,
@@ -143,9 +143,8 @@ fn first_slots(alloc: Global, ctx: &Ctx, k: usize) -> Result<Slots, AdoptFault>
     ensures wrong { ¬ IsErrOf result AdoptFault.Wrong }
     ensures key { IsKey ctx.now }
 {
-    let key = ctx.key();
-    match ladder_vector(alloc, key.e, &ctx.regulars()[k], key.limit) {
-        Ok(vector) => Ok(Slots::from_vector(alloc, ctx.all(), &vector)?),
+    match ladder_slots(alloc, ctx, k) {
+        Ok(slots) => Ok(slots),
         Err(PowerFault::TooLarge) => Err(AdoptFault::TooLarge),
         Err(PowerFault::Memory) => Err(AdoptFault::Memory),
     }

@@ -9,10 +9,10 @@ ghost use Rattle.sp_llt.specs.Refusals.{outcome_at};
 ghost use Rattle.sp_llt.specs.Shares.{given_shares};
 
 use crate::entry::Found;
+use crate::ladder::ladder_slots;
 use crate::search::{next_share, stray_in};
 use crate::{Ctx, Entry, Share};
 use sp_fock::FockFault;
-use sp_ladder::ladder_vector;
 use sp_laurent::LaurentFault;
 use sp_power::PowerFault;
 use sp_slots::{Indexed, Slots};
@@ -63,12 +63,8 @@ impl<'a> Builder<'a> {
         requires { k < length (labels ctx.now) }
         ensures { IfOk result (λ b. b ≡ progress ctx.now k k) }
     {
-        let key = ctx.key();
-        match ladder_vector(alloc, key.e, &ctx.regulars()[k], key.limit) {
-            Ok(vector) => {
-                let slots = Slots::from_vector(alloc, ctx.all(), &vector)?;
-                Builder::reach(alloc, ctx, k, k, slots, Vec::new(alloc))
-            }
+        match ladder_slots(alloc, ctx, k) {
+            Ok(slots) => Builder::reach(alloc, ctx, k, k, slots, Vec::new(alloc)),
             Err(PowerFault::TooLarge) => Ok(Builder::too_large(alloc, ctx, k, k)),
             Err(PowerFault::Memory) => Err(AllocError),
         }

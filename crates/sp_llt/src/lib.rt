@@ -10,6 +10,7 @@ mod builder;
 mod ctx;
 mod entry;
 mod fault;
+mod ladder;
 mod law;
 mod refused;
 mod same;

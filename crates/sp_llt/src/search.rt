@@ -16,8 +16,8 @@ use sp_partition::Partition;
 use sp_slots::Slots;
 use std::alloc::Global;
 
-// The greatest rank below `end` at whose partition the lift of the coefficient isn't 0, with this lift. The partition of
-// a rank is told by its place among all of the degree.
+// The greatest rank below `end` at whose partition the lift of the coefficient isn't 0, with this lift. The partition
+// of a rank is told by its place among all of the degree.
 pub(crate) fn next_share(
     alloc: Global,
     places: &[usize],

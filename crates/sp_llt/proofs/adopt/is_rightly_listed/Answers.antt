@@ -1,4 +1,5 @@
-use Rattle.std.proofs.Common.{◌≡◌, ℕ, true, false, List, reverse, refl, sym, ◌∙◌, ap, subst, Option, None, Some, is_some}
+use Rattle.std.proofs.Common.{◌≡◌, ℕ, true, false, List, reverse, refl, sym, ◌∙◌, ap, subst, Option, None, Some}
+use Rattle.std.proofs.Common.{is_some}
 use Rattle.std.specs.List.{find}
 use Rattle.std.specs.Option.{option_map}
 use Rattle.sp_defs.specs.Laurent.{Laurent, one}

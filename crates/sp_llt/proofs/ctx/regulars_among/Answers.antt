@@ -26,7 +26,8 @@ loop-place-preserved c =
           subst (λ (rs : Vec (List ℕ) Global). AreFound e all (k + 1) rs.items c.if-is_regular.places.items)
           (sym w.regulars-is)
           (subst (λ (is : Vec ℕ Global). AreFound e all (k + 1) w.push.new.self.items is.items) (sym w.places-is)
-          (subst (λ xs. AreFound e all (k + 1) xs w.push-then-is_regular.new.self.items) (sym w.in_ok-push.ensures.items)
+          (subst (λ xs. AreFound e all (k + 1) xs w.push-then-is_regular.new.self.items)
+          (sym w.in_ok-push.ensures.items)
           (subst (AreFound e all (k + 1) (c.loop-place.regulars.items ++ (p ∷ []))) (sym w.in_ok-push-2.ensures.items)
           (found_more e all k c.loop-place.regulars.items c.loop-place.places.items p c.loop-place.invariant
           c.loop-place-test.true is (sym c.is_regular.ensures ∙ w.if-is_regular.true)))))

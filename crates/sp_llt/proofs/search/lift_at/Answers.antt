@@ -2,6 +2,7 @@ use Rattle.std.proofs.Common.{◌≡◌, ◌≢◌, ℕ, ◌<◌, ◌≤◌, ◌
 use Rattle.sp_defs.specs.Partition.{partitions}
 use Rattle.sp_defs.specs.Laurent.{Laurent, lift, size, IsPositive}
 use Rattle.sp_defs.specs.Power.{vector_of}
+use Rattle.sp_llt.proofs.Giving.{at_most}
 use Rattle.sp_llt.proofs.Places.{lift_here}
 use Rattle.sp_llt.proofs.Positive.{positive_lift, lift_positive}
 use Rattle.sp_llt.proofs.search.lift_at.Goals as goal
@@ -10,9 +11,6 @@ use Rattle.sp_llt.proofs.search.lift_at.Goals as goal
 some_lift : (b : Bool) (p : Laurent) → (IsTrue b ↔ IsPositive p) → b ≡ false → lift p ≢ []
 some_lift true p i e z = cc
 some_lift false p i e z = let w : false ≡ true = i.1 (lift_positive p z) in cc
-
-le_of_not_lt : (m n : ℕ) → (m < n → ⊥) → n ≤ m
-le_of_not_lt m n h = omega (arith, h)
 
 pub returns-then-in_vzv : goal.returns-then-in_vzv
 returns-then-in_vzv c = record {
@@ -34,5 +32,5 @@ returns-in_ok-lift-clause-found c =
       value = is ∙ sym here;
       nonzero = λ z. some_lift c.in_vzv.result p c.in_vzv.ensures c.if-in_vzv.false (sym is ∙ z);
       fits = subst (λ q. size q ≤ c.args.limit) (sym is)
-          (le_of_not_lt c.args.limit (size (lift p)) (λ large. let w = c.in_ok-lift.ensures.too_large.1 large in cc));
+          (at_most c.args.limit (size (lift p)) (λ large. let w = c.in_ok-lift.ensures.too_large.1 large in cc));
     }
