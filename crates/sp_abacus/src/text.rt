@@ -22,7 +22,7 @@ pub fn abacus_text(
     ensures kept { OnErr result (out.new.items ≡ out.old.items) }
 {
     let length = out.len();
-    let written = put_places(out, e, p);
+    let written = put_places(e, p, out);
     if written.is_err() {
         out.truncate(length);
     }
@@ -30,7 +30,7 @@ pub fn abacus_text(
 }
 
 // An `Err` may leave more at the end of `out`, here and below.
-fn put_places(out: &mut Vec<u8>, e: u8, p: &Partition) -> Result<(), AllocError>
+fn put_places(e: u8, p: &Partition, out: &mut Vec<u8>) -> Result<(), AllocError>
     requires e_least { 2 ≤ e }
     requires e_most { e ≤ 64 }
     ensures text { OnOk result (out.new.items ≡ out.old.items ++ abacus_text_of e p.now) }
@@ -41,7 +41,7 @@ fn put_places(out: &mut Vec<u8>, e: u8, p: &Partition) -> Result<(), AllocError>
     }
     let numbers = beta(e, p);
     for place in 0..places(e, numbers.as_slice()) {
-        put_place(out, e, numbers.as_slice(), place)?;
+        put_place(e, numbers.as_slice(), place, out)?;
     }
     Ok(())
 }
@@ -58,7 +58,7 @@ fn places(e: u8, numbers: &[u8]) -> u8
     }
 }
 
-fn put_place(out: &mut Vec<u8>, e: u8, numbers: &[u8], place: u8) -> Result<(), AllocError>
+fn put_place(e: u8, numbers: &[u8], place: u8, out: &mut Vec<u8>) -> Result<(), AllocError>
     requires small { e * place + e ≤ 255 }
     ensures text { OnOk result (out.new.items ≡ out.old.items ++ place_line e numbers.now place) }
     ensures kept { OnErr result (take (length out.old.items) out.new.items ≡ out.old.items) }

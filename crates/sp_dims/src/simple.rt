@@ -11,7 +11,7 @@ ghost use Rattle.sp_dims.specs.Equation.{next_dim as next_dim_of, known_weight};
 use crate::equation::solve;
 use crate::{DimsFault, specht_dim};
 use sp_fock::Grid;
-use sp_partition::Partition;
+use sp_partition::{Partition, place_in};
 use std::alloc::{AllocError, Global};
 
 /// The dimensions of the simple modules of the columns, in their order.
@@ -69,12 +69,5 @@ fn line_of(grid: &Grid, column: &Partition) -> usize
     ensures place { result ≡ place grid.now.lines column.now }
     ensures grid { IsGrid grid.now }
 {
-    find_line(grid.lines(), column).unwrap_or(0)
-}
-
-// The place of a partition in a list, if it has one.
-fn find_line(lines: &[Partition], column: &Partition) -> Option<usize>
-    ensures { result ≡ position (λ line. pointwise nat_eq line column.now) lines.now }
-{
-    lines.iter().position(|line| line == column)
+    place_in(grid.lines(), column).unwrap_or(0)
 }

@@ -2,6 +2,7 @@
 use Rattle.std.proofs.Common.{◌≡◌, ℕ, List, ◌+◌, ◌*◌, ◌≤◌, ◌↔◌, [], ◌∷◌, refl, sym, ◌∙◌, subst}
 use Rattle.std.specs.List.{AllByRecursion}
 use Rattle.sp_algebra.proofs.Laws.{IsLaurent-plus, plus_nought, times_nought}
+use Rattle.sp_algebra.proofs.Sizes.{product_within-right_nil}
 use Rattle.sp_defs.specs.Laurent.{Laurent, IsLaurent, collect, plus, times, size}
 use Rattle.sp_defs.specs.Power.{Entries, IsVector, vector_of, entries, FockVector}
 use Rattle.sp_lists.proofs.Elements.{all_both}
@@ -16,10 +17,6 @@ use Rattle.sp_laurent.specs.Held.{power_limit, IsHeld as IsHeldPolynomial}
 use Rattle.sp_fock.specs.Held.{IsHeld, ArePairs, held_as}
 use Rattle.sp_defs.specs.Within.{ProductWithin}
 use Rattle.sp_fock.specs.Sum.{CanAdd, added, AllFit}
-
-nothing_within : (d : ℕ) (a : Laurent) → ProductWithin d a []
-nothing_within d [] = tt
-nothing_within d (t ∷ a) = (tt, nothing_within d a)
 
 nought_laurent : IsLaurent []
 unfolding collect
@@ -41,7 +38,7 @@ can_add limit a es fs he hf within fits =
     parts : AllByRecursion Parts (joined es fs)
     parts =
         joined-all IsHeldPartition IsLaurent (ProductWithin power_limit a) nought_laurent
-        (nothing_within power_limit a) es fs
+        (product_within-right_nil power_limit a) es fs
         (all_mono (λ t. IsHeldPartition t.0 × IsHeldPolynomial t.1) (λ t. IsHeldPartition t.0 × IsLaurent t.1) es
         (λ t h. (h.0, h.1.laurent)) he)
         (all_mono (λ t. (IsHeldPartition t.0 × IsHeldPolynomial t.1) × ProductWithin power_limit a t.1)

@@ -15,7 +15,7 @@ impl Vector {
         ensures kept { OnErr result (out.new.items ≡ out.old.items) }
     {
         let length = out.len();
-        let printed = put_terms(alloc, out, self.terms());
+        let printed = put_terms(alloc, self.terms(), out);
         if printed.is_err() {
             out.truncate(length);
         }
@@ -24,7 +24,7 @@ impl Vector {
 }
 
 // An `Err` may leave more at the end of `out`, here and below.
-fn put_terms(alloc: Global, out: &mut Vec<u8>, terms: Terms<'_>) -> Result<(), AllocError>
+fn put_terms(alloc: Global, terms: Terms<'_>, out: &mut Vec<u8>) -> Result<(), AllocError>
     ensures text { OnOk result (out.new.items ≡ out.old.items ++ written terms.entry) }
     ensures kept { OnErr result (take (length out.old.items) out.new.items ≡ out.old.items) }
 {
@@ -33,13 +33,13 @@ fn put_terms(alloc: Global, out: &mut Vec<u8>, terms: Terms<'_>) -> Result<(), A
         Some((at, coefficient)) => {
             put_signed_entry(
                 alloc,
-                out,
                 b"-".as_slice(),
                 b"".as_slice(),
                 &at,
                 coefficient,
+                out,
             )?;
-            put_rest(alloc, out, rest)
+            put_rest(alloc, rest, out)
         }
         None => {
             out.push(b'0')?;
@@ -49,18 +49,18 @@ fn put_terms(alloc: Global, out: &mut Vec<u8>, terms: Terms<'_>) -> Result<(), A
 }
 
 // The terms after the first, each with its sign between.
-fn put_rest(alloc: Global, out: &mut Vec<u8>, terms: Terms<'_>) -> Result<(), AllocError>
+fn put_rest(alloc: Global, terms: Terms<'_>, out: &mut Vec<u8>) -> Result<(), AllocError>
     ensures text { OnOk result (out.new.items ≡ out.old.items ++ flat_map next_entry_text terms.entry) }
     ensures kept { OnErr result (take (length out.old.items) out.new.items ≡ out.old.items) }
 {
     for (at, coefficient) in terms {
         put_signed_entry(
             alloc,
-            out,
             b" - ".as_slice(),
             b" + ".as_slice(),
             &at,
             coefficient,
+            out,
         )?;
     }
     Ok(())
@@ -69,11 +69,11 @@ fn put_rest(alloc: Global, out: &mut Vec<u8>, terms: Terms<'_>) -> Result<(), Al
 // An entry behind its sign: `minus` where it is a single negative term, and `plus` elsewhere.
 fn put_signed_entry(
     alloc: Global,
-    out: &mut Vec<u8>,
     minus: &[u8],
     plus: &[u8],
     at: &Partition,
     coefficient: &Laurent,
+    out: &mut Vec<u8>,
 ) -> Result<(), AllocError>
     ensures text { OnOk result (out.new.items ≡ out.old.items
         ++ (cond (has_minus_of coefficient.now) minus.now plus.now ++ entry_text (at.now, coefficient.now))) }
@@ -81,19 +81,19 @@ fn put_signed_entry(
 {
     let sign = if has_minus(coefficient) { minus } else { plus };
     out.extend_from_slice(sign)?;
-    put_entry(alloc, out, at, coefficient)
+    put_entry(alloc, at, coefficient, out)
 }
 
 fn put_entry(
     alloc: Global,
-    out: &mut Vec<u8>,
     at: &Partition,
     coefficient: &Laurent,
+    out: &mut Vec<u8>,
 ) -> Result<(), AllocError>
     ensures text { OnOk result (out.new.items ≡ out.old.items ++ entry_text (at.now, coefficient.now)) }
     ensures kept { OnErr result (take (length out.old.items) out.new.items ≡ out.old.items) }
 {
-    put_factor(alloc, out, coefficient)?;
+    put_factor(alloc, coefficient, out)?;
     out.push(b'[')?;
     at.print(alloc, out)?;
     out.push(b']')?;
@@ -101,13 +101,13 @@ fn put_entry(
 }
 
 // A single term is written without its sign, and not at all where it is 1 or -1.
-fn put_factor(alloc: Global, out: &mut Vec<u8>, coefficient: &Laurent) -> Result<(), AllocError>
+fn put_factor(alloc: Global, coefficient: &Laurent, out: &mut Vec<u8>) -> Result<(), AllocError>
     ensures text { OnOk result (out.new.items ≡ out.old.items ++ factor_text coefficient.now) }
     ensures kept { OnErr result (take (length out.old.items) out.new.items ≡ out.old.items) }
 {
     match coefficient.terms() {
         [] | [(0, 1 | -1)] => Ok(()),
-        [term] => print_term(out, *term),
+        [term] => print_term(*term, out),
         _ => {
             out.push(b'(')?;
             coefficient.print(alloc, out)?;

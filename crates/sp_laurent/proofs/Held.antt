@@ -2,13 +2,16 @@
 use Rattle.std.proofs.Common.{◌≡◌, ◌+◌, ◌*◌, ◌⊎◌, inl, inr, ◌∙◌, ap, ◌^◌, ◌<◌, ◌≤◌, [], ◌∷◌, refl, sym}
 use Rattle.std.proofs.Common.{arith, ℤ, pos}
 use Rattle.std.specs.Int.RustNames.{unsigned_abs}
-use Rattle.sp_defs.specs.Laurent.{Laurent, IsLaurent, add_term, collect, monomial, power, plus, times, negate, bar, size}
+use Rattle.sp_defs.specs.Laurent.{Laurent, IsLaurent, add_term, collect, monomial, power, plus, times, negate, bar}
+use Rattle.sp_defs.specs.Laurent.{size}
 use Rattle.sp_algebra.proofs.Coefficients.{IsLaurent-collect}
 use Rattle.sp_defs.specs.Within.{ProductWithin}
-use Rattle.sp_algebra.proofs.Laws.{IsLaurent-plus, IsLaurent-times, IsLaurent-negate, IsLaurent-bar, plus_nought, nought_times}
+use Rattle.sp_algebra.proofs.Laws.{IsLaurent-plus, IsLaurent-times, IsLaurent-negate, IsLaurent-bar, plus_nought}
+use Rattle.sp_algebra.proofs.Laws.{nought_times}
 use Rattle.sp_algebra.proofs.Laws.{times_nought}
 use Rattle.sp_algebra.proofs.Sizes.{size_negate, size_bar, within_negate, within_bar}
-use Rattle.sp_algebra.proofs.Sizes.{size-cons, size-monomial, within_monomial, size_plus, size_times, within_plus, within_times}
+use Rattle.sp_algebra.proofs.Sizes.{size-cons, size-monomial, within_monomial, size_plus, size_times, within_plus}
+use Rattle.sp_algebra.proofs.Sizes.{within_times}
 use Rattle.sp_laurent.specs.Held.{IsHeld, power_limit}
 
 -- 0 may be held

@@ -8,6 +8,7 @@ use Rattle.std.proofs.lemmas.List.{take_more}
 use Rattle.std.proofs.lemmas.List.Sums.{sum_by-cons, sum_by_more, sum_by_more_le}
 use Rattle.std.specs.Int.RustNames.{unsigned_abs}
 use Rattle.sp_defs.specs.Laurent.{Laurent, Term, int_sum, slope_at_one}
+use Rattle.sp_algebra.proofs.Sizes.{sum_near}
 use Rattle.sp_laurent.proofs.Machine.{mul_back, small_fits}
 
 -- the absolute values of the powers, each times that of its coefficient
@@ -39,9 +40,6 @@ slope-more p i d lt =
     alone : (a t : ℤ) → a +ℤ (t +ℤ pos 0) ≡ a +ℤ t
     alone a t = omega (arith, ints)
 
-triangle : (a b : ℤ) → unsigned_abs (a +ℤ b) ≤ unsigned_abs a + unsigned_abs b
-triangle a b = omega (arith, ints)
-
 -- the slope is no further from 0 than the weight
 pub slope_le : (p : Laurent) → unsigned_abs (slope_at_one p) ≤ slope_weight p
 unfolding int_sum
@@ -49,7 +47,7 @@ slope_le [] = omega (arith, ints)
 slope_le ((k, c) ∷ p) =
     omega (
       arith,
-      triangle (k *ℤ c) (slope_at_one p),
+      sum_near (k *ℤ c) (slope_at_one p),
       unsigned_abs-mul k c,
       slope_le p,
       sum_by-cons (λ (t : Term). unsigned_abs t.0 * unsigned_abs t.1) (k, c) p,

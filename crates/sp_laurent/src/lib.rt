@@ -3,7 +3,8 @@
 
 ghost use Rattle.std.specs.Prelude.{◌≡◌, ℕ, ◌+◌, ◌*◌, ◌^◌, ◌<◌, ◌≤◌, ◌↔◌, unsigned_abs, IfOk, OnOk, OnErr, IsErrOf};
 ghost use Rattle.std.specs.Prelude.{IsTrue, [], List, ℤ, ◌+ℤ◌, ◌-ℤ◌, ◌*ℤ◌, ◌++◌, pos, neg_ℤ, map, reverse};
-ghost use Rattle.sp_defs.specs.Laurent.{IsPositive, IsBarInvariant, coefficient, int_sum, size, monomial, plus, times, negate, bar, lift};
+ghost use Rattle.sp_defs.specs.Laurent.{IsPositive, IsBarInvariant, coefficient, int_sum, size, monomial, plus, times};
+ghost use Rattle.sp_defs.specs.Laurent.{negate, bar, lift};
 ghost use Rattle.sp_defs.specs.Laurent.{value_at_one};
 ghost use Rattle.sp_defs.specs.Text.{polynomial_text};
 ghost use Rattle.sp_defs.specs.Within.{PowersWithin, ProductWithin};
@@ -257,8 +258,8 @@ impl Laurent {
         Ok(Laurent { terms })
     }
 
-    /// This polynomial and `other * v^power`. It is refused as too large where the sizes of both sum up to more than the
-    /// limit. The sum is made in this polynomial's own memory, which grows only where the sum has more terms.
+    /// This polynomial and `other * v^power`. It is refused as too large where the sizes of both sum up to more than
+    /// the limit. The sum is made in this polynomial's own memory, which grows only where the sum has more terms.
     pub fn plus_shifted(
         self,
         other: &Laurent,
@@ -299,7 +300,7 @@ impl Laurent {
         ensures err { OnErr result (out.new.items ≡ out.old.items) }
     {
         let before = out.len();
-        let printed = print_terms(out, &self.terms);
+        let printed = print_terms(&self.terms, out);
         if printed.is_err() {
             out.truncate(before);
         }

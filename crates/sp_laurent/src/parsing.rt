@@ -83,7 +83,7 @@ fn is_text(alloc: Global, terms: &[Term], text: &[u8]) -> Result<bool, AllocErro
     ensures { IfOk result (λ same. IsTrue same ↔ (polynomial_text terms.now ≡ text.now)) }
 {
     let mut printed = Vec::new(alloc);
-    print_terms(&mut printed, terms)?;
+    print_terms(terms, &mut printed)?;
     Ok(printed.as_slice() == text)
 }
 

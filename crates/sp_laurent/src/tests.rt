@@ -99,7 +99,7 @@ fn prints(rt: HostRuntime) -> Result<(), Fail> {
     ];
     for (terms, text) in texts {
         let mut out = Vec::new(rt.alloc());
-        print_terms(&mut out, terms)?;
+        print_terms(terms, &mut out)?;
         assert_eq!(rt; out.as_slice(), text);
     }
     Ok(())

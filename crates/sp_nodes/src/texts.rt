@@ -26,7 +26,7 @@ pub fn diagram_text(
     ensures text { OnOk result (out.new.items ≡ out.old.items ++ diagram_text_of e p.now) }
     ensures kept { OnErr result (out.new.items ≡ out.old.items) }
 {
-    put_grid(out, Filling::Residues(e), p)
+    put_grid(Filling::Residues(e), p, out)
 }
 
 /// Appends a line for each row with the hook lengths of its nodes, and for the empty partition a line with a dash. An
@@ -35,7 +35,7 @@ pub fn hooks_text(_alloc: Global, p: &Partition, out: &mut Vec<u8>) -> Result<()
     ensures text { OnOk result (out.new.items ≡ out.old.items ++ hooks_text_of p.now) }
     ensures kept { OnErr result (out.new.items ≡ out.old.items) }
 {
-    put_grid(out, Filling::HookLengths, p)
+    put_grid(Filling::HookLengths, p, out)
 }
 
 // What stands at the nodes.
@@ -45,13 +45,13 @@ enum Filling {
     HookLengths,
 }
 
-fn put_grid(out: &mut Vec<u8>, filling: Filling, p: &Partition) -> Result<(), AllocError>
+fn put_grid(filling: Filling, p: &Partition, out: &mut Vec<u8>) -> Result<(), AllocError>
     requires { IsFilling filling }
     ensures text { OnOk result (out.new.items ≡ out.old.items ++ grid_text (number_of filling p.now) p.now) }
     ensures kept { OnErr result (out.new.items ≡ out.old.items) }
 {
     let length = out.len();
-    let written = put_rows(out, filling, p);
+    let written = put_rows(filling, p, out);
     if written.is_err() {
         out.truncate(length);
     }
@@ -59,7 +59,7 @@ fn put_grid(out: &mut Vec<u8>, filling: Filling, p: &Partition) -> Result<(), Al
 }
 
 // An `Err` may leave more at the end of `out`, here and below.
-fn put_rows(out: &mut Vec<u8>, filling: Filling, p: &Partition) -> Result<(), AllocError>
+fn put_rows(filling: Filling, p: &Partition, out: &mut Vec<u8>) -> Result<(), AllocError>
     requires { IsFilling filling }
     ensures text { OnOk result (out.new.items ≡ out.old.items ++ grid_text (number_of filling p.now) p.now) }
     ensures kept { OnErr result (take (length out.old.items) out.new.items ≡ out.old.items) }
@@ -68,12 +68,12 @@ fn put_rows(out: &mut Vec<u8>, filling: Filling, p: &Partition) -> Result<(), Al
         return out.extend_from_slice(b"-\n");
     }
     for row in 1..p.row_count() + 1 {
-        put_line(out, filling, p, row)?;
+        put_line(filling, p, row, out)?;
     }
     Ok(())
 }
 
-fn put_line(out: &mut Vec<u8>, filling: Filling, p: &Partition, row: u8) -> Result<(), AllocError>
+fn put_line(filling: Filling, p: &Partition, row: u8, out: &mut Vec<u8>) -> Result<(), AllocError>
     requires filling { IsFilling filling }
     requires row_least { 1 ≤ row }
     requires row_most { row ≤ 32 }
@@ -82,14 +82,14 @@ fn put_line(out: &mut Vec<u8>, filling: Filling, p: &Partition, row: u8) -> Resu
 {
     for column in 1..p.part(row) + 1 {
         let number = number_at(filling, p, Node { row, column });
-        put_after(out, column > 1, number)?;
+        put_after(column > 1, number, out)?;
     }
     out.push(b'\n')?;
     Ok(())
 }
 
 // Appends the number, after a space where others stand before it.
-fn put_after(out: &mut Vec<u8>, later: bool, number: u8) -> Result<(), AllocError>
+fn put_after(later: bool, number: u8, out: &mut Vec<u8>) -> Result<(), AllocError>
     ensures text { OnOk result (out.new.items ≡ out.old.items ++ (cond later (codes " ") [] ++ decimal number)) }
     ensures kept { OnErr result (take (length out.old.items) out.new.items ≡ out.old.items) }
 {

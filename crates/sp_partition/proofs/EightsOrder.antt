@@ -1,6 +1,7 @@
 -- Arrays of 32 parts stand in the order of their eights.
 use Rattle.std.proofs.Common.{◌≡◌, ℕ, zero, suc, ◌+◌, ◌-◌, ◌<◌, ◌≤◌, List, [], ◌∷◌, take, drop, length, refl, sym, ◌∙◌}
-use Rattle.std.proofs.Common.{ap, ap₂, subst, arith, slice_index, nat_cmp, Ordering, Less, Equal, Greater, length-drop, length-take}
+use Rattle.std.proofs.Common.{ap, ap₂, subst, arith, slice_index, nat_cmp, Ordering, Less, Equal, Greater, length-drop}
+use Rattle.std.proofs.Common.{length-take}
 use Rattle.std.specs.Int.{w64, from_be_bytes}
 use Rattle.std.specs.Ordering.{ordering_then}
 use Rattle.std.proofs.lemmas.Grind.{common_steps}
@@ -35,7 +36,8 @@ next_eight : (k : ℕ) (xs ys : List ℕ) → length xs ≡ length ys →
     ≡ ordering_then (compare (eight k xs) (eight k ys)) (compare (drop (k + 8) xs) (drop (k + 8) ys))
 next_eight k xs ys e =
     compare_parted 8 (drop k xs) (drop k ys) (length-drop k xs ∙ ap (λ n. n - k) e ∙ sym (length-drop k ys))
-    ∙ ap₂ (λ us vs. ordering_then (compare (eight k xs) (eight k ys)) (compare us vs)) (drop-drop 8 k xs) (drop-drop 8 k ys)
+    ∙ ap₂ (λ us vs. ordering_then (compare (eight k xs) (eight k ys)) (compare us vs))
+    (drop-drop 8 k xs) (drop-drop 8 k ys)
 
 last_eight : (xs : List ℕ) → length xs ≡ 32 → drop 24 xs ≡ eight 24 xs
 last_eight xs size = grind (arith, common_steps)
@@ -69,7 +71,8 @@ eights_order xs ys hx hy first second third last e f g h =
 
 -- Eight of an array of bytes are bytes.
 eight_bytes : (k : ℕ) (xs : List ℕ) → ((i : ℕ) → slice_index xs i < 256) → AreBytes (eight k xs)
-eight_bytes k xs h = all_places (λ x. x < 256) (eight k xs) 0 (λ i lt. byte i (omega (arith, length-take 8 (drop k xs))))
+eight_bytes k xs h = all_places (λ x. x < 256) (eight k xs) 0
+    (λ i lt. byte i (omega (arith, length-take 8 (drop k xs))))
   where
     byte : (i : ℕ) → i < 8 → slice_index (eight k xs) i < 256
     byte i lt = subst (λ n. n < 256) (sym (get_or-take 8 (drop k xs) i 0 lt ∙ get_or-drop k xs i 0)) (h (k + i))

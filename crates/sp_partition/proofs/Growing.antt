@@ -9,10 +9,7 @@ use Rattle.sp_shapes.proofs.Corners.{addable_least, addable_room}
 use Rattle.sp_partition.specs.Held.{IsHeld}
 use Rattle.sp_partition.specs.Padded.{IsPadded}
 use Rattle.sp_partition.specs.declared.TheConstants.{CAPACITY}
-use Rattle.sp_partition.proofs.Holding.{Holds, fields_hold, few_parts, holds_padded, holds_view}
-
-less_one : (m n : ℕ) → suc m - suc n ≡ m - n
-less_one m n = omega arith
+use Rattle.sp_partition.proofs.Holding.{Holds, fields_hold, few_parts, holds_padded, holds_view, less_one}
 
 -- The array, of any size, with one more at place k.
 set-grow : (n k : ℕ) (parts : List ℕ) → k ≤ length parts → k < n →

@@ -1,11 +1,15 @@
 -- The fields that hold a partition.
-use Rattle.std.proofs.Common.{◌≡◌, ℕ, ◌-◌, ◌≤◌, List, ◌++◌, take, length, replicate, sym, ◌∙◌, ap, subst, arith}
+use Rattle.std.proofs.Common.{◌≡◌, ℕ, suc, ◌-◌, ◌≤◌, List, ◌++◌, take, length, replicate, sym, ◌∙◌, ap, subst, arith}
 use Rattle.std.proofs.lemmas.Grind.{common_steps}
 use Rattle.sp_defs.specs.Partition.{degree}
 use Rattle.sp_shapes.proofs.Degrees.{length-degree}
 use Rattle.sp_partition.specs.Held.{IsHeld}
 use Rattle.sp_partition.specs.Padded.{IsPadded, padded, padded-count, padded-array}
 use Rattle.sp_partition.specs.declared.TheConstants.{CAPACITY}
+
+-- One less of each number leaves the difference.
+pub less_one : (m n : ℕ) → suc m - suc n ≡ m - n
+less_one m n = omega arith
 
 -- There are no more parts than there is room for.
 pub few_parts : (parts : List ℕ) → IsHeld parts → length parts ≤ CAPACITY

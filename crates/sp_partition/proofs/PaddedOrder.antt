@@ -9,13 +9,10 @@ use Rattle.sp_shapes.proofs.Order.{equal_self}
 use Rattle.sp_partition.specs.Held.{IsHeld}
 use Rattle.sp_partition.specs.Padded.{padded, padded-array, IsPadded}
 use Rattle.sp_partition.specs.declared.TheConstants.{CAPACITY}
-use Rattle.sp_partition.proofs.Holding.{few_parts}
+use Rattle.sp_partition.proofs.Holding.{few_parts, less_one}
 
 abbrev with_zeros : ℕ → List ℕ → List ℕ
 with_zeros n parts = parts ++ replicate (n - length parts) 0
-
-less_one : (m n : ℕ) → suc m - suc n ≡ m - n
-less_one m n = omega arith
 
 zeros_order : (n : ℕ) (xs ys : List ℕ) → IsPartition xs → IsPartition ys → length xs ≤ n → length ys ≤ n →
     compare (with_zeros n xs) (with_zeros n ys) ≡ compare xs ys

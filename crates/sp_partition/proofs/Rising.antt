@@ -5,19 +5,12 @@ use Rattle.sp_defs.specs.Partition.{IsPartitionOf, IsRegularOf, IsEarlier, Ascen
 use Rattle.sp_lists.proofs.Places.{all_at}
 use Rattle.sp_lists.proofs.Places.{all_weaken}
 use Rattle.sp_shapes.proofs.Listing.{all_partitions, partitions_ascend, all_regulars, regulars_ascend}
+use Rattle.sp_shapes.proofs.Order.{ascends_at}
 use Rattle.sp_partition.specs.OrderLaws.{order_one_degree}
 
 -- Each partition of the list comes before those in later places.
 abbrev pub Rises : List (List ℕ) → Type 0
 Rises list = (i j : ℕ) → i < j → j < length list → order (get_or list i []) (get_or list j []) ≡ Less
-
-ascends_at : (list : List (List ℕ)) → Ascending list → (i j : ℕ) → i < j → j < length list →
-    IsEarlier (get_or list i []) (get_or list j [])
-ascends_at [] h i j lt within = absurd (omega arith)
-ascends_at (p ∷ list) h zero zero lt within = absurd (omega arith)
-ascends_at (p ∷ list) h (suc i) zero lt within = absurd (omega arith)
-ascends_at (p ∷ list) (h, hs) zero (suc j) lt within = all_at (IsEarlier p) list j [] h (omega arith)
-ascends_at (p ∷ list) (h, hs) (suc i) (suc j) lt within = ascends_at list hs i j (omega arith) (omega arith)
 
 -- Where they have one degree, that is what ascending lexicographically says.
 pub rises_ascending : (n : ℕ) (list : List (List ℕ)) → AllByRecursion (IsPartitionOf n) list → Ascending list →

@@ -14,14 +14,12 @@ use Rattle.sp_partition.specs.Held.{IsHeld}
 use Rattle.sp_partition.specs.Padded.{IsPadded}
 use Rattle.sp_partition.specs.declared.TheConstants.{CAPACITY}
 use Rattle.sp_partition.proofs.Holding.{Holds, held_fields, fields_hold, few_parts, holds_padded, holds_view}
+use Rattle.sp_partition.proofs.Holding.{less_one}
 
 -- A partition whose greatest part is less than 1 is empty.
 none_left : (parts : List ℕ) → IsPartition parts → slice_index parts 0 < 1 → parts ≡ []
 none_left [] h lt = refl
 none_left (p ∷ parts) h lt = absurd (omega (arith, IsPartition-head p parts h))
-
-less_one : (m n : ℕ) → suc m - suc n ≡ m - n
-less_one m n = omega arith
 
 -- The array, of any size, with one less at place k.
 set-shrink : (n k : ℕ) (parts : List ℕ) → IsPartition parts → Corner parts k → length parts ≤ n →

@@ -65,7 +65,8 @@ weight_order (x ∷ xs) (y ∷ ys) e (hx, hxs) (hy, hys) =
             order : (w ≤ v) ⊎ (v < w) → (v ≤ w) ⊎ (w < v) → nat_cmp (a + v) (a + w) ≡ nat_cmp v w
             order (inr lt) _ = sym (nat_cmp_is (a + v) (a + w) Less (omega arith)) ∙ nat_cmp_is v w Less lt
             order (inl le) (inr gt) = sym (nat_cmp_is (a + v) (a + w) Greater (omega arith)) ∙ nat_cmp_is v w Greater gt
-            order (inl le) (inl ge) = sym (nat_cmp_is (a + v) (a + w) Equal (omega arith)) ∙ nat_cmp_is v w Equal (omega arith)
+            order (inl le) (inl ge) =
+                sym (nat_cmp_is (a + v) (a + w) Equal (omega arith)) ∙ nat_cmp_is v w Equal (omega arith)
 
 -- Eight bytes, read as a number whose first byte is the greatest, are its digits.
 pub eight_weight : (xs : List ℕ) → length xs ≡ 8 → from_be_bytes w64 xs ≡ weight xs

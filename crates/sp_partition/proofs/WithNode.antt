@@ -19,7 +19,8 @@ use Rattle.sp_partition.specs.declared.TheConstants.{CAPACITY}
 -- Two partitions that agree in one row and in all others are one.
 rows_agree : (row : ℕ) (p q : List ℕ) → IsPartition p → IsPartition q → 1 ≤ row → part p row ≡ part q row →
     ((r : ℕ) → 1 ≤ r → (r ≡ row → ⊥) → part p r ≡ part q r) → p ≡ q
-rows_agree row p q hp hq least here others = same_rows p q hp hq (λ k. at k (le_or_lt (suc k) row) (le_or_lt row (suc k)))
+rows_agree row p q hp hq least here others =
+    same_rows p q hp hq (λ k. at k (le_or_lt (suc k) row) (le_or_lt row (suc k)))
   where
     same : (r k : ℕ) → r ≡ suc k → part p r ≡ part q r → slice_index p k ≡ slice_index q k
     same r k e is = sym (part_is p r k e) ∙ is ∙ part_is q r k e

@@ -17,7 +17,7 @@ pub use items::Items;
 pub use law::values_law;
 pub use listing::{all_of, regular_of};
 pub use partition::{NotPartition, Partition};
-pub use ranking::rank;
+pub use ranking::{place_in, rank};
 
 /// The greatest degree that the program's commands take.
 pub const DEGREE_LIMIT: u8 = 30;

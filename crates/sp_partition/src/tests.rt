@@ -1,4 +1,4 @@
-use crate::{Items, NotPartition, Partition, all_of, rank, regular_of};
+use crate::{Items, NotPartition, Partition, all_of, place_in, rank, regular_of};
 use std::test::Fail;
 
 fn read(text: &[u8]) -> Result<Partition, Fail> {
@@ -155,6 +155,9 @@ fn ranks_partitions(rt: HostRuntime) -> Result<(), Fail> {
     let four = all_of(rt.alloc(), 4)?;
     assert_eq!(rt; rank(&four, &read(b"3,1")?), Some(3));
     assert_eq!(rt; rank(&four, &read(b"3,2")?), None);
+    let lines = [read(b"4")?, read(b"3,1")?, read(b"1^4")?];
+    assert_eq!(rt; place_in(&lines, &read(b"1^4")?), Some(2));
+    assert_eq!(rt; place_in(&lines, &read(b"2^2")?), None);
     Ok(())
 }
 

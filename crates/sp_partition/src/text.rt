@@ -16,7 +16,7 @@ impl Partition {
         ensures kept { OnErr result (out.new.items ≡ out.old.items) }
     {
         let length = out.len();
-        let printed = put_parts(out, self.parts());
+        let printed = put_parts(self.parts(), out);
         if printed.is_err() {
             out.truncate(length);
         }
@@ -25,7 +25,7 @@ impl Partition {
 }
 
 // An `Err` may leave more at the end of `out`, here and below.
-fn put_parts(out: &mut Vec<u8>, parts: &[u8]) -> Result<(), AllocError>
+fn put_parts(parts: &[u8], out: &mut Vec<u8>) -> Result<(), AllocError>
     requires { IsHeld parts.now }
     ensures text { OnOk result (out.new.items ≡ out.old.items ++ partition_text parts.now) }
     ensures kept { OnErr result (take (length out.old.items) out.new.items ≡ out.old.items) }
@@ -34,16 +34,16 @@ fn put_parts(out: &mut Vec<u8>, parts: &[u8]) -> Result<(), AllocError>
         out.push(b'-')?;
         return Ok(());
     }
-    let mut rest = put_run(out, parts)?;
+    let mut rest = put_run(parts, out)?;
     while !rest.is_empty() {
         out.push(b',')?;
-        rest = put_run(out, rest)?;
+        rest = put_run(rest, out)?;
     }
     Ok(())
 }
 
 // Writes the first part with the number of its equals, and answers the parts after them.
-fn put_run<'a>(out: &mut Vec<u8>, parts: &'a [u8]) -> Result<&'a [u8], AllocError>
+fn put_run<'a>(parts: &'a [u8], out: &mut Vec<u8>) -> Result<&'a [u8], AllocError>
     requires some { 0 < length parts.now }
     requires few { length parts.now < 256 }
     ensures text { OnOk result (out.new.items ≡ out.old.items ++ lead_text parts.now) }
@@ -51,10 +51,10 @@ fn put_run<'a>(out: &mut Vec<u8>, parts: &'a [u8]) -> Result<&'a [u8], AllocErro
     ensures kept { OnErr result (take (length out.old.items) out.new.items ≡ out.old.items) }
 {
     let count = lead(parts);
-    put_number(out, parts[0])?;
+    put_number(parts[0], out)?;
     if count > 1 {
         out.push(b'^')?;
-        put_number(out, count as u8)?;
+        put_number(count as u8, out)?;
     }
     Ok(&parts[count..])
 }
@@ -70,7 +70,7 @@ fn lead(parts: &[u8]) -> usize
     parts.iter().take_while(|part| **part == first).count()
 }
 
-fn put_number(out: &mut Vec<u8>, number: u8) -> Result<(), AllocError>
+fn put_number(number: u8, out: &mut Vec<u8>) -> Result<(), AllocError>
     ensures text { OnOk result (out.new.items ≡ out.old.items ++ decimal number) }
     ensures kept { OnErr result (out.new.items ≡ out.old.items) }
 {

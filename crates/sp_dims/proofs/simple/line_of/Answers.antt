@@ -9,6 +9,6 @@ pub returns-clause-place : goal.returns-clause-place
 returns-clause-place c =
     c.unwrap_or.ensures
     ∙ ap (λ r. unwrap_or r 0)
-    (c.find_line.ensures
+    (c.place_in.ensures
     ∙ ap (position (λ line. pointwise nat_eq line c.args.column.now)) c.lines.ensures.value
     ∙ found_place c.args.grid.now.lines c.args.column.now c.requires)

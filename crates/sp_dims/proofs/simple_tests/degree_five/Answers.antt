@@ -2,6 +2,7 @@ use Rattle.std.proofs.Common.{◌≡◌, ℕ, List, [], ◌∷◌, refl, sym, �
 use Rattle.sp_defs.specs.Laurent.{Laurent, one}
 use Rattle.sp_fock.specs.Cells.{rows_of}
 use Rattle.sp_fock_law.specs.Grid.{GridValue}
+use Rattle.sp_module_defs.proofs.Places.{gridded}
 use Rattle.sp_module_defs.specs.Cells.{IsSquareUnitriangular, cell_at, place}
 use Rattle.sp_dims.proofs.simple_tests.degree_five.Goals as goal
 
@@ -25,14 +26,14 @@ cells =
     (one ∷ [] ∷ [] ∷ []) ∷ ([] ∷ one ∷ [] ∷ []) ∷ ([] ∷ [] ∷ one ∷ []) ∷ (v ∷ [] ∷ v ∷ []) ∷ ([] ∷ [] ∷ v_squared ∷
     []) ∷ ([] ∷ v ∷ [] ∷ []) ∷ (v_squared ∷ [] ∷ [] ∷ []) ∷ []
 
-abbrev gridded : List (List ℕ) → List (List ℕ) → List (List Laurent) → GridValue
-gridded columns lines cells = record { degree = 5; columns = columns; lines = lines; cells = cells }
-
-triangular : IsSquareUnitriangular columns (cell_at (gridded columns lines cells))
+triangular : IsSquareUnitriangular columns (cell_at (gridded 5 columns lines cells))
 unfolding cell_at place
 triangular = record {
   own = (refl, (refl, (refl, tt)));
-  greater = ((λ h. cc, (λ h. cc, (λ h. cc, tt))), ((λ _. refl, (λ h. cc, (λ h. cc, tt))), ((λ _. refl, (λ _. refl, (λ h. cc, tt))), tt)));
+  greater = (
+    (λ h. cc, (λ h. cc, (λ h. cc, tt))),
+    ((λ _. refl, (λ h. cc, (λ h. cc, tt))), ((λ _. refl, (λ _. refl, (λ h. cc, tt))), tt)),
+  );
 }
 
 cons : {X : Type 0} {x y : X} {xs ys : List X} → x ≡ y → xs ≡ ys → x ∷ xs ≡ y ∷ ys
@@ -53,5 +54,5 @@ returns c =
     c.in_ok-row-7.ensures (refl))))))) in
     subst (λ (g : GridValue). IsSquareUnitriangular g.columns (cell_at g))
     (sym (c.in_ok-build.ensures
-    ∙ ap₂ (λ a b. gridded a b (rows_of c.in_ok-cells.cells.items)) columns_are lines_are
-    ∙ ap (gridded columns lines) cells_are)) triangular
+    ∙ ap₂ (λ a b. gridded 5 a b (rows_of c.in_ok-cells.cells.items)) columns_are lines_are
+    ∙ ap (gridded 5 columns lines) cells_are)) triangular

@@ -2,6 +2,7 @@ use Rattle.std.proofs.Common.{◌≡◌, ℕ, List, [], ◌∷◌, refl, sym, �
 use Rattle.sp_defs.specs.Laurent.{Laurent, one}
 use Rattle.sp_fock.specs.Cells.{rows_of}
 use Rattle.sp_fock_law.specs.Grid.{GridValue}
+use Rattle.sp_module_defs.proofs.Places.{gridded}
 use Rattle.sp_module_defs.specs.Cells.{IsSquareUnitriangular, cell_at, place}
 use Rattle.sp_dims.proofs.simple_tests.degree_four.Goals as goal
 
@@ -23,10 +24,7 @@ abbrev cells : List (List Laurent)
 cells =
     (one ∷ [] ∷ []) ∷ (v ∷ one ∷ []) ∷ ([] ∷ v ∷ []) ∷ (v ∷ v_squared ∷ []) ∷ (v_squared ∷ [] ∷ []) ∷ []
 
-abbrev gridded : List (List ℕ) → List (List ℕ) → List (List Laurent) → GridValue
-gridded columns lines cells = record { degree = 4; columns = columns; lines = lines; cells = cells }
-
-triangular : IsSquareUnitriangular columns (cell_at (gridded columns lines cells))
+triangular : IsSquareUnitriangular columns (cell_at (gridded 4 columns lines cells))
 unfolding cell_at place
 triangular = record {
   own = (refl, (refl, tt));
@@ -40,5 +38,5 @@ returns c =
     let cells_are : rows_of c.in_ok-cells.cells.items ≡ cells = search rules in
     subst (λ (g : GridValue). IsSquareUnitriangular g.columns (cell_at g))
     (sym (c.in_ok-build.ensures
-    ∙ ap₂ (λ a b. gridded a b (rows_of c.in_ok-cells.cells.items)) columns_are lines_are
-    ∙ ap (gridded columns lines) cells_are)) triangular
+    ∙ ap₂ (λ a b. gridded 4 a b (rows_of c.in_ok-cells.cells.items)) columns_are lines_are
+    ∙ ap (gridded 4 columns lines) cells_are)) triangular

@@ -19,7 +19,8 @@ returns-then-is_zero-clause-ok c =
 
 pub invariant_of-self : goal.invariant_of-self
 invariant_of-self c =
-    let sum = c.in_ok-add_product.ensures ∙ ap₂ plus (c.in_ok-sum.ensures.items ∙ c.deref.ensures.value ∙ c.self.view_is)
+    let sum = c.in_ok-add_product.ensures
+    ∙ ap₂ plus (c.in_ok-sum.ensures.items ∙ c.deref.ensures.value ∙ c.self.view_is)
     (ap₂ times (c.deref-2.ensures.value ∙ c.a.view_is) (c.deref-3.ensures.value ∙ c.b.view_is)) in
     let fits : size c.args.self.now + size c.args.a.now * size c.args.b.now < 2 ^ 127 =
     omega (
@@ -33,7 +34,8 @@ invariant_of-self c =
 
 pub returns-clause-powers : goal.returns-clause-powers
 returns-clause-powers c d old product =
-    let sum = c.in_ok-add_product.ensures ∙ ap₂ plus (c.in_ok-sum.ensures.items ∙ c.deref.ensures.value ∙ c.self.view_is)
+    let sum = c.in_ok-add_product.ensures
+    ∙ ap₂ plus (c.in_ok-sum.ensures.items ∙ c.deref.ensures.value ∙ c.self.view_is)
     (ap₂ times (c.deref-2.ensures.value ∙ c.a.view_is) (c.deref-3.ensures.value ∙ c.b.view_is)) in
     subst (PowersWithin d) (sym sum)
     (within_plus d c.args.self.now (times c.args.a.now c.args.b.now) old

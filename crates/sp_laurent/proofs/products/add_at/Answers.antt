@@ -65,7 +65,8 @@ returns-else-there-ne0 c =
     back c.requires.place c.split_first-there.ensures.joined in
     let sum_fits = small_fits (c.args.coefficient +ℤ there) (omega (arith, ints, small, c.requires.fits)) in
     let none = sum_nought c.args.coefficient there c.ranges.coefficient fits sum_fits c.if-sum-eq0.true in
-    let added = parted_none _ _ _ _ c.args.coefficient there parted none (back_nought there fits c.if-there-ne0.false) in
+    let added = parted_none _ _ _ _ c.args.coefficient there parted none
+    (back_nought there fits c.if-there-ne0.false) in
     record {
       added = added;
       behind = c.requires.place;
@@ -82,7 +83,8 @@ returns c =
     let small = from_place_small c.args.terms.now.items _ _ c.args.place c.args.power _ there c.deref.ensures.value
     back c.requires.place c.split_first-there.ensures.joined in
     let sum_fits = small_fits (c.args.coefficient +ℤ there) (omega (arith, ints, small, c.requires.fits)) in
-    let some : c.args.coefficient +ℤ there ≢ pos 0 = λ e. c.if-sum-eq0.false (nought_sum c.args.coefficient there c.ranges.coefficient fits sum_fits e) in
+    let some : c.args.coefficient +ℤ there ≢ pos 0 =
+    λ e. c.if-sum-eq0.false (nought_sum c.args.coefficient there c.ranges.coefficient fits sum_fits e) in
     let sum = add_back w128 c.args.coefficient there c.ranges.coefficient fits sum_fits in
     let added : c.if-there-eq0.terms.items ≡ add_term c.args.power c.args.coefficient c.args.terms.now.items =
     elim c.if-there-eq0.branch [
