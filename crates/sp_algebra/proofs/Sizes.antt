@@ -147,6 +147,10 @@ pub within_times : (d : ℕ) (p q : Laurent) → ProductWithin d p q → PowersW
 unfolding times
 within_times d p q h = powers_collect (λ k. unsigned_abs k ≤ d) (products p q) (within_products d p q h)
 
+-- a sum lies no further from 0 than both numbers together
+pub sum_near : (x y : ℤ) → unsigned_abs (x +ℤ y) ≤ unsigned_abs x + unsigned_abs y
+sum_near x y = omega (arith, ints)
+
 sums_within : (x y d : ℕ) (k : ℤ) (q : Laurent) → x + y ≤ d → unsigned_abs k ≤ x → PowersWithin y q
     → AllByRecursion (λ t. unsigned_abs (k +ℤ t.0) ≤ d) q
 sums_within x y d k [] le hk hq = tt
@@ -169,7 +173,8 @@ product_within_more d e ((k, c) ∷ p) q le (h, hs) = (more q h, product_within_
     more [] h = tt
     more ((j, b) ∷ q) (h, hs) = (omega arith, more q hs)
 
-product_within-right_nil : (d : ℕ) (q : Laurent) → ProductWithin d q []
+-- products with 0 are within any number
+pub product_within-right_nil : (d : ℕ) (q : Laurent) → ProductWithin d q []
 product_within-right_nil d [] = tt
 product_within-right_nil d (t ∷ q) = (tt, product_within-right_nil d q)
 

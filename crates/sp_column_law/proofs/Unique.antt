@@ -20,8 +20,9 @@ use Rattle.sp_algebra.proofs.Laws.{coefficient-plus, bar_invariant-nought, IsLau
 use Rattle.sp_fock_law.proofs.Vectors.{entries-vector_of, vector_of-all}
 use Rattle.sp_triangle.proofs.Triangle.{same_factors}
 use Rattle.sp_triangle.proofs.Shares.{rows, rows_triangle, keys-shares, invariant-shares, from_keys}
-use Rattle.sp_row_law.proofs.Setting.{Good, IsBefore, good_earlier, earlier_before, earlier_ascends, triangle, rows_same}
-use Rattle.sp_row_law.proofs.RowsLaw.{rows_law}
+use Rattle.sp_row_law.proofs.Setting.{Good, IsBefore, good_earlier, earlier_before, earlier_ascends, triangle}
+use Rattle.sp_row_law.proofs.Setting.{rows_same}
+use Rattle.sp_row_law.proofs.RowsLaw.{rows_law, keyed_same}
 use Rattle.sp_outcome_law.specs.Asking.{given}
 use Rattle.sp_outcome_law.specs.Asking.{is_nonzero as is_nonzero_share}
 use Rattle.sp_outcome_law.proofs.Left.{IsLaurent-row, combination_nonzero}
@@ -99,11 +100,6 @@ module _ (e : ℕ) (mu : List ℕ) (is : IsLabel e mu) (fs : Factors) (known : A
 
   -- ---- the two lists of factors agree at each partition before mu, so they are the same
 
-  over_rows : (gs : Factors) (lambda : List ℕ) → map (λ f. f.0) gs ≡ seg →
-      combination (rows A seg) gs lambda ≡ combination (regular_row e) gs lambda
-  over_rows gs lambda k = rows_same e mu gs lambda
-      (from_keys (IsBefore e mu) gs (subst (AllByRecursion (IsBefore e mu)) (sym k) (earlier_before e mu)))
-
   not_mu : (nu : List ℕ) → compare nu mu ≡ Less → nu ≢ mu
   not_mu nu lt same = let w : Less ≡ compare mu mu = sym lt ∙ ap (λ x. compare x mu) same in
       let z : compare mu mu ≡ Equal = equal_self mu in cc
@@ -114,8 +110,8 @@ module _ (e : ℕ) (mu : List ℕ) (is : IsLabel e mu) (fs : Factors) (known : A
   agree nu (good, lt) j low = omega (
     arith,
     ints,
-    ap (λ p. coefficient p j) (over_rows full nu (keys-filled seg (vector_of up)) ∙ full_sum nu),
-    ap (λ p. coefficient p j) (over_rows (shares e mu) nu (keys-shares A mu seg)),
+    ap (λ p. coefficient p j) (keyed_same e mu is full nu (keys-filled seg (vector_of up)) ∙ full_sum nu),
+    ap (λ p. coefficient p j) (keyed_same e mu is (shares e mu) nu (keys-shares A mu seg)),
     ap (λ p. coefficient p j)
         (right.sum nu (record { partition = good.partition; total = good.total })),
     ap (λ p. coefficient p j) ((rows_law e mu is).shares_sum nu),

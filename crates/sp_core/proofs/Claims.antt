@@ -111,6 +111,7 @@ opening_next n w = record {
   only = λ j at. omega arith;
 }
 
+-- the claims of a run take the rows in their order
 pub claims_in_order : ClaimsRowsInOrder
 claims_in_order n w es s r k lt =
     claims_are es (opening n w) s 0 r.1 (opening_kept n w r.0) (opening_next n w) k lt ∙ omega arith

@@ -104,6 +104,7 @@ changed_once Waits h = absurd (h refl)
 changed_once Freed h = refl
 changed_once Gone h = refl
 
+-- an event that changes the state lowers the measure
 pub each_change_falls : (s : World) → Kept s → EachChangeFalls s
 each_change_falls s h e t a is ne =
     let m = did_moves s e t a (step_did s e t a is) h in
@@ -111,6 +112,7 @@ each_change_falls s h e t a is ne =
     let f = m.falls in
     omega arith
 
+-- an event leaves the state as it is exactly where its answer is Waits
 pub only_waits_stay : (s : World) → Kept s → OnlyWaitsStay s
 only_waits_stay s h e t a is = let m = did_moves s e t a (step_did s e t a is) h in (m.stays, m.waits)
 
@@ -130,6 +132,7 @@ opening_measure n w =
     let on = sum_by-replicate (λ x. cond (has_not_ended x) 1 0) w Free in
     rw (length-replicate, rows, asks, on) (omega arith)
 
+-- a run has few changes
 pub few_changes : FewChanges
 few_changes n w es s r =
     let q = few es (opening n w) s r.1 (opening_kept n w r.0) in

@@ -24,6 +24,7 @@ no_row_taken s all h k v at =
     let both : Some (Busy k q.0) ≡ Some Ended = sym q.1 ∙ all v lt in
     cc
 
+-- each row is done or lost once all workers have ended
 pub ends_settled : (s : World) → Kept s → EndsSettled s
 ends_settled s h all k lt = by_row (get_or s.rows k Open) (slice_get-get_or s.rows k Open lt)
   where
@@ -70,9 +71,11 @@ free_can s w None none f = record {
   changes = changes_workers s w Free Ended f.free (λ e. cc) s.rows;
 }
 
+-- who is named can move
 pub named_can_move : (s : World) → Kept s → NamedCanMove s
 named_can_move s h w (first_busy b) = busy_can s w b.least
 named_can_move s h w (first_free idle f) = free_can s w (first_open s.rows) refl f
 
+-- a worker is named, or all have ended, and never both
 pub names_unless_ended : (s : World) → Kept s → NamesUnlessEnded s
 names_unless_ended s h = record { either = someone_or_ended s.workers; not_both = named_or_ended s.workers }

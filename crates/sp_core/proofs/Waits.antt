@@ -73,6 +73,7 @@ waits_for s e w j t a (stayed d) is waits h = by_row found.0 found.1
     by_row Done here = absurd (d.not_done (rw row here))
     by_row Lost here = absurd (d.not_lost (rw row here))
 
+-- who waits, waits for an earlier row
 pub waits : (s : World) → Kept s → WaitsAreForEarlier s
 waits s h w j t is = waits_for s (Ask w j) w j t Waits (step_did s (Ask w j) t Waits is) refl refl h
 
@@ -94,5 +95,6 @@ least_for s e w j t a (stayed d) is least h =
     let lt = q.earlier in
     absurd (omega arith)
 
+-- the busy worker with the least row never waits
 pub least_never_waits : (s : World) → Kept s → LeastNeverWaits s
 least_never_waits s h w j t a l is = least_for s (Ask w j) w j t a (step_did s (Ask w j) t a is) refl l h

@@ -20,9 +20,11 @@ pub record IsBestOf (workers : List WorkerState) (n w row : ℕ) : Type 0 where
   pub least : (v r l : ℕ) → v < n → slice_get workers v ≡ Some (Busy r l) → row ≤ r
   pub first : (v r l : ℕ) → v < w → slice_get workers v ≡ Some (Busy r l) → row < r
 
+-- None of the first n workers is busy.
 abbrev pub NoneBusyOf : List WorkerState → ℕ → Type 0
 NoneBusyOf workers n = (v r l : ℕ) → v < n → slice_get workers v ≡ Some (Busy r l) → ⊥
 
+-- What a walk over the first n workers has found: the first with the least row, or that none is busy.
 abbrev pub BestSoFar : List WorkerState → ℕ → Option (ℕ × ℕ) → Type 0
 BestSoFar workers n None = NoneBusyOf workers n
 BestSoFar workers n (Some best) = IsBestOf workers n best.0 best.1
@@ -43,6 +45,7 @@ best_of_all workers w row h = record {
       omega arith;
 }
 
+-- none is busy where none of the first is, and these are all
 pub none_of_all : (workers : List WorkerState) → NoneBusyOf workers (length workers) → NoneBusy workers
 none_of_all workers h v r l at = h v r l (slice_get_within workers v (Busy r l) at) at
 
@@ -143,6 +146,7 @@ state_of : (workers : List WorkerState) (v : ℕ) → v < length workers
     → (x : WorkerState) × (slice_get workers v ≡ Some x)
 state_of workers v lt = (get_or workers v Ended, slice_get-get_or workers v Ended lt)
 
+-- workers of whom none is busy and none is free have ended
 pub none_left : (workers : List WorkerState) → NoneBusy workers → NoneFree workers → AllEnded workers
 none_left workers idle bound v lt = by_state found.0 found.1
   where
@@ -251,9 +255,11 @@ named_none workers ended = record {
   none = ((λ _. ended), (λ _. refl));
 }
 
+-- the first busy worker with the least row is named
 pub named_by_busy : (workers : List WorkerState) (w : ℕ) → IsFirstLeastBusy workers w → Names workers (Some w)
 named_by_busy workers w h = named_one workers w (first_busy h)
 
+-- where none is busy, the least free one is named, or nobody
 pub named_by_free : (workers : List WorkerState) (result : Option ℕ) → NoneBusy workers
     → MatchOption result (NoneFree workers) (IsLeastFree workers) → Names workers result
 named_by_free workers None idle none = named_none workers (none_left workers idle none)

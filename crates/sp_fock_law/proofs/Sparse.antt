@@ -10,6 +10,7 @@ use Rattle.std.specs.List.Sorted.{IsSearchInRange, IsBinarySearchResult, IsNonDe
 use Rattle.std.specs.Ordering.{MatchOrdering, nat_cmp, ordering_index}
 use Rattle.std.specs.Result.{MatchResult}
 use Rattle.sp_defs.specs.Laurent.{Laurent}
+use Rattle.sp_lists.proofs.Comparing.{ranked, comparison_rises}
 use Rattle.sp_fock_law.specs.Sparse.{Cells, IsSparseFrom, IsSparse, cell_among, spread_from, spread}
 
 -- ---- the polynomial at a place
@@ -166,9 +167,6 @@ cell_among-absent ((k, p) ∷ others) column d none =
     cell_among-other k column p others (none zero (omega arith))
     ∙ cell_among-absent others column d (λ i lt. none (suc i) (omega arith))
 
-comparison_rises : (a b column : ℕ) → a ≤ b → ordering_index (nat_cmp a column) ≤ ordering_index (nat_cmp b column)
-comparison_rises a b column le = grind (arith, nat_tests)
-
 comparisons_rise : (width : ℕ) (cells : Cells) → IsSparse width cells → (column : ℕ)
     → IsNonDecreasingBy (λ c. ordering_index (nat_cmp c.0 column)) cells
 comparisons_rise width cells h column i k d le in_range = elim (cases_lt i k) [
@@ -177,9 +175,6 @@ comparisons_rise width cells h column i k d le in_range = elim (cases_lt i k) [
   | inr ge ↦ subst (λ n. ordering_index (nat_cmp (get_or cells i d).0 column) ≤ ordering_index
       (nat_cmp (get_or cells n d).0 column)) {x = i} (omega arith) (omega arith)
 ]
-
-ranked : (a b : ℕ) (o : Ordering) → nat_cmp a b ≡ o → MatchOrdering o (a < b) (a ≡ b) (b < a)
-ranked a b o e = subst (λ x. MatchOrdering x (a < b) (a ≡ b) (b < a)) e (ranks a b)
 
 -- A search by halves finds the polynomial at a place, or that 0 stands there.
 pub searched : (width : ℕ) (cells : Cells) → IsSparse width cells → (column : ℕ) (r : Result ℕ ℕ)

@@ -38,7 +38,7 @@ use Rattle.sp_defs.specs.Laurent.{Laurent, IsLaurent, collect}
 use Rattle.sp_defs.specs.Power.{Vector, Entries, vector_of, entries, IsVector}
 use Rattle.sp_lists.proofs.Elements.{all_every, all_filter, all_map, map_all}
 use Rattle.sp_lists.proofs.Occurrence.{at_occurs}
-use Rattle.sp_shapes.proofs.Order.{later_than, less_trans, equal_self, same_lists, all_mono}
+use Rattle.sp_shapes.proofs.Order.{earlier_than, later_than, less_trans, equal_self, same_lists, all_mono}
 use Rattle.sp_shapes.proofs.Listing.{Occurs, all_partitions, each_partition, partitions_ascend, Ascending-filter}
 use Rattle.sp_fock_law.specs.Joined.{is_nonzero}
 
@@ -59,10 +59,6 @@ later_tail kappa p es h = map_all (IsEarlier kappa) (λ t. t.0) es h.0
 pub all_later : (mu kappa : List ℕ) (es : Entries) → IsEarlier mu kappa → AllLater kappa es → AllLater mu es
 all_later mu kappa es e h =
     all_mono (λ t. IsEarlier kappa t.0) (λ t. IsEarlier mu t.0) es (λ t l. less_trans mu kappa t.0 e l) h
-
--- where one partition is the greater, the other is earlier
-pub earlier_than : (x y : List ℕ) → compare x y ≡ Greater → IsEarlier y x
-earlier_than x y o = nat_list_cmp_total.antisymm y x ∙ ap ordering_reverse o
 
 -- ---- looking up
 

@@ -15,6 +15,7 @@ use Rattle.sp_lists.proofs.Places.{all_weaken}
 use Rattle.sp_fock_law.proofs.Vectors.{vector_of-entries, entries-alike}
 use Rattle.sp_fock_law.proofs.Single.{entries-unit}
 use Rattle.sp_power.specs.Arrivals.{AllWithin}
+use Rattle.sp_power.proofs.Units.{all_more}
 use Rattle.sp_power_law.proofs.Sources.{divided_power-alike, induction_weight-alike}
 use Rattle.sp_ladder_law.proofs.Weights.{WithinUpTo, degree_after, nodes_added, degree_after_all, nodes_added-more}
 use Rattle.sp_ladder_law.proofs.Weights.{partial_step, partial_whole, within_first, within_next, weight_within}
@@ -73,13 +74,6 @@ degree_small e mu t label = omega (arith, sum_by-take-le (λ s. s.count) (steps 
     whole = ap nodes_added (sym (take_all (length (steps e mu)) (steps e mu) (omega arith)))
         ∙ degree_after_all e mu label
 
--- Powers within one bound are within a greater one.
-pub powers_weaken : (a b : ℕ) (es : Entries) → a ≤ b → AllWithin a es → AllWithin b es
-powers_weaken a b es le h = all_weaken (λ s. PowersWithin a s.1) (λ s. PowersWithin b s.1) es (λ s. each s.1) h
-  where
-    each : (p : Laurent) → PowersWithin a p → PowersWithin b p
-    each p k = all_weaken (λ t. unsigned_abs t.0 ≤ a) (λ t. unsigned_abs t.0 ≤ b) p (λ t j. omega arith) k
-
 -- ---- one step on
 
 module _ (limit e : ℕ) (mu : List ℕ) (t : ℕ) (v : FockVector) (so_far : After limit e mu t v) where
@@ -135,7 +129,7 @@ module _ (limit e : ℕ) (mu : List ℕ) (t : ℕ) (v : FockVector) (so_far : Af
       is = is ∙ same_vector;
       within = within_next limit e mu t no_step early so_far.within (subst (λ k. k ≤ limit) weight_is fits);
       powers =
-          powers_weaken (m * (v.degree + 1) + 33 * degree_after e mu t) (33 * degree_after e mu (t + 1)) w.entries
+          all_more (m * (v.degree + 1) + 33 * degree_after e mu t) (33 * degree_after e mu (t + 1)) w.entries
           (omega (arith, after, product)) (powers (33 * degree_after e mu t) so_far.powers);
     }
       where

@@ -1,5 +1,6 @@
 -- How far the code has come in the steps of mu: what it can ask for, and what the answers mean.
-use Rattle.std.proofs.Common.{◌≡◌, ℕ, ◌+◌, ◌*◌, ◌<◌, ◌≤◌, true, List, [], map, length, get_or, sym, ◌∙◌, ap, subst, arith}
+use Rattle.std.proofs.Common.{◌≡◌, ℕ, ◌+◌, ◌*◌, ◌<◌, ◌≤◌, true, List, [], map, length, get_or, sym, ◌∙◌, ap, subst}
+use Rattle.std.proofs.Common.{arith}
 use Rattle.std.proofs.lemmas.List.{get_or-map, length-map}
 use Rattle.sp_defs.specs.Partition.{degree, is_regular}
 use Rattle.sp_defs.specs.Power.{vector_of, unit, divided_power, induction_weight, FockVector, fock_vector}
@@ -13,8 +14,10 @@ use Rattle.sp_ladder.specs.declared.step.Step.{Step}
 use Rattle.sp_ladder.specs.Obeys.{ObeysLadderLaw}
 use Rattle.sp_ladder.specs.Steps.{step_on}
 use Rattle.sp_ladder.proofs.Obeys.{obeys}
-use Rattle.sp_ladder.proofs.Partial.{no_step, nth_step, After, after_none, after_next, past_next, room_next, after_all, fits_all}
-use Rattle.sp_ladder.proofs.Partial.{degree_is, degree_small, powers_weaken}
+use Rattle.sp_ladder.proofs.Partial.{no_step, nth_step, After, after_none, after_next, past_next, room_next, after_all}
+use Rattle.sp_ladder.proofs.Partial.{fits_all}
+use Rattle.sp_ladder.proofs.Partial.{degree_is, degree_small}
+use Rattle.sp_power.proofs.Units.{all_more}
 
 -- Before step t of the list that the code made, with the vector so far.
 pub record Progress (limit e : ℕ) (mu : List ℕ) (list : List Step) (t : ℕ) (v : FockVector) : Type 0 where
@@ -72,7 +75,7 @@ module _ (limit e : ℕ) (mu : List ℕ) (list : List Step) (t : ℕ) (v : FockV
   -- The powers so far are small.
   pub powers_small : AllWithin half_power_limit v.entries
   powers_small =
-      powers_weaken (33 * degree_after e mu t) half_power_limit v.entries
+      all_more (33 * degree_after e mu t) half_power_limit v.entries
       (omega (arith, degree_small e mu t p.label, p.small)) p.after.powers
 
   -- The next step of the list.

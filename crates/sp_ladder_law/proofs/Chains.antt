@@ -64,7 +64,8 @@ by_source : (e : ℕ) (s : Step) (earlier : List Step) (last before : List ℕ) 
 unfolding chain_sum OneMore
 by_source e s earlier last before =
     sum_over-map (λ chain. last ∷ chain) chains (chain_power e (s ∷ earlier))
-    ∙ sum_over-alike chains _ _ (all_weaken (Starts before) (OneMore e s earlier last before) chains (one_more e s earlier last before)
+    ∙ sum_over-alike chains _ _
+    (all_weaken (Starts before) (OneMore e s earlier last before) chains (one_more e s earlier last before)
     (all_start e earlier before))
     ∙ sym (times-sum_over (step_power e s before last) chains (chain_power e earlier))
   where

@@ -10,6 +10,7 @@ use Rattle.sp_defs.specs.Node.{Node, nodes_from}
 use Rattle.sp_defs.specs.Ladder.{ladder_of}
 use Rattle.std.proofs.lemmas.Bool.{lt-leb}
 use Rattle.std.proofs.lemmas.List.{map-append}
+use Rattle.sp_lists.proofs.Counts.{at_most_one}
 use Rattle.sp_lists.proofs.Elements.{le_or_lt, count_zero, range_snoc}
 use Rattle.sp_shapes.proofs.Diagram.{nodes_all}
 use Rattle.sp_shapes.proofs.Regular.{lower_earlier}
@@ -72,13 +73,10 @@ module _ (e L : ℕ) where
       plain : (p : ℕ) → p ≡ p + 0
       plain p = omega arith
   row_low r p (suc d) = subst (λ n. in_row r n ≤ in_row r p + suc d) (moved p d)
-      (omega (arith, row_suc r (p + d), at_most (nat_le L (r + (e - 1) * (p + d))), row_low r p d))
+      (omega (arith, row_suc r (p + d), at_most_one (nat_le L (r + (e - 1) * (p + d))), row_low r p d))
     where
       moved : (p d : ℕ) → suc (p + d) ≡ p + suc d
       moved p d = omega arith
-
-      at_most : (b : Bool) → cond b 1 0 ≤ 1
-      at_most b = elim b as (λ b. cond b 1 0 ≤ 1) [ true ↦ omega arith | false ↦ omega arith ]
 
   row_high : (r p d : ℕ) → L ≤ r + (e - 1) * p → in_row r (p + d) ≡ in_row r p + d
   row_high r p zero h = ap (in_row r) (plain p) ∙ plain' (in_row r p)

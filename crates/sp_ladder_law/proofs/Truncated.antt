@@ -16,6 +16,7 @@ use Rattle.sp_shapes.proofs.Listing.{IsPartition-nil, IsPartition-cons}
 use Rattle.std.proofs.lemmas.Bool.{lt-leb}
 use Rattle.sp_shapes.proofs.Moves.{Move, degree_added, out_node}
 use Rattle.sp_shapes.proofs.Residues.{residue_ladder}
+use Rattle.sp_shapes.proofs.Within.{rows_sum}
 
 -- the rows `parts`, from row r on, up to ladder l
 unfoldable pub cut : ℕ → ℕ → ℕ → List ℕ → List ℕ
@@ -247,15 +248,7 @@ module _ (e : ℕ) (he : 2 ≤ e) where
         first = le 0
 
         rest : sum xs ≤ sum ys
-        rest = sums xs ys (λ k. le (suc k))
-          where
-            sums : (xs ys : List ℕ) → ((k : ℕ) → slice_index xs k ≤ slice_index ys k) → sum xs ≤ sum ys
-            sums [] ys f = omega arith
-            sums (x ∷ xs) [] f =
-                let z : x ≤ 0 = f 0 in omega (arith, sum_by-cons (λ x. x) x xs, sums xs [] (λ k. f (suc k)))
-            sums (x ∷ xs) (y ∷ ys) f =
-                let z : x ≤ y = f 0 in
-                omega (arith, sum_by-cons (λ x. x) x xs, sum_by-cons (λ x. x) y ys, sums xs ys (λ k. f (suc k)))
+        rest = rows_sum xs ys (λ k. le (suc k))
 
         step : (k : ℕ) → (sum ys ≤ sum xs → (k : ℕ) → slice_index ys k ≤ slice_index xs k) →
             slice_index (y ∷ ys) k ≤ slice_index (x ∷ xs) k

@@ -274,8 +274,8 @@ within_weight limit e mu label h = record { sizes = at_step }
         let degrees = flat_all (λ n. n ≤ limit) (sizes_of e mu t) (range_with_len 0 (degree mu + 1)) here in
         let few : degree_after e mu t ≤ degree mu = omega (arith, degree_after_within e mu t, whole) in
         let of_degree : AllByRecursion (λ n. n ≤ limit) (sizes_of e mu t (degree_after e mu t)) =
-        range_at (λ k. AllByRecursion (λ n. n ≤ limit) (sizes_of e mu t k)) 0 (degree mu + 1) degrees (degree_after e mu t)
-        (omega arith) (omega arith) in
+        range_at (λ k. AllByRecursion (λ n. n ≤ limit) (sizes_of e mu t k)) 0 (degree mu + 1) degrees
+        (degree_after e mu t) (omega arith) (omega arith) in
         at_occurs (λ lambda. size (partial_ladder_vector e mu t lambda) ≤ limit) lambda
         (partitions (degree_after e mu t)) (each_partition (degree_after e mu t) lambda pl.partition pl.total)
         (within_map (λ lambda. size (partial_ladder_vector e mu t lambda)) limit

@@ -1,12 +1,27 @@
--- Two tests of two lists of numbers: by their elements, and by the lexicographic order.
-use Rattle.std.proofs.Common.{◌≡◌, ◌≢◌, ℕ, nat_eq, Bool, true, false, not, List, refl, sym, ◌∙◌, ap}
-use Rattle.std.proofs.Common.{Ordering, Less, Equal, Greater}
-use Rattle.std.specs.Ordering.{is_eq, nat_cmp, ordering_reverse}
+-- Numbers and lists of numbers compared: what an answer says, and two tests of two lists, by their elements and by the
+-- lexicographic order.
+use Rattle.std.proofs.Common.{◌≡◌, ◌≢◌, ℕ, ◌<◌, ◌≤◌, nat_eq, Bool, true, false, not, List, refl, sym, ◌∙◌, ap, subst}
+use Rattle.std.proofs.Common.{arith, Ordering, Less, Equal, Greater}
+use Rattle.std.specs.Ordering.{is_eq, nat_cmp, ordering_index, ordering_reverse, MatchOrdering}
+use Rattle.std.specs.Cmp.{ranks}
 use Rattle.std.specs.Cmp.Lexicographic.{pointwise, slice_cmp, same_text, other_text}
 use Rattle.std.specs.FinMap.{slice_cmp-IsAntisymmetric, nat_cmp-IsAntisymmetric}
 use Rattle.std.proofs.lemmas.Cmp.{nat_list_cmp_total}
 use Rattle.std.proofs.lemmas.Bool.{true_from_ne_false}
+use Rattle.std.proofs.lemmas.Bool.Decides.{nat_tests}
 use Rattle.sp_lists.proofs.Elements.{same_tests}
+
+-- ---- numbers
+
+-- what the answer of a comparison says of the two numbers
+pub ranked : (a b : ℕ) (o : Ordering) → nat_cmp a b ≡ o → MatchOrdering o (a < b) (a ≡ b) (b < a)
+ranked a b o e = subst (λ x. MatchOrdering x (a < b) (a ≡ b) (b < a)) e (ranks a b)
+
+-- of two numbers the greater one has the later answer against a third
+pub comparison_rises : (a b n : ℕ) → a ≤ b → ordering_index (nat_cmp a n) ≤ ordering_index (nat_cmp b n)
+comparison_rises a b n le = grind (arith, nat_tests)
+
+-- ---- lists
 
 -- a list equals itself in the order
 pub equal_self : (xs : List ℕ) → slice_cmp nat_cmp xs xs ≡ Equal

@@ -1,11 +1,15 @@
 -- Counts and sums over lists that were filtered, mapped or put in another order.
-use Rattle.std.proofs.Common.{◌≡◌, ℕ, ◌+◌, Bool, true, false, cond, ◌&&◌, List, [], ◌∷◌, map, filter, length, refl}
-use Rattle.std.proofs.Common.{sym, ◌∙◌, ap, ap₂, count_by, sum_by, zero-add}
+use Rattle.std.proofs.Common.{◌≡◌, ℕ, ◌+◌, ◌≤◌, Bool, true, false, cond, ◌&&◌, List, [], ◌∷◌, map, filter, length, refl}
+use Rattle.std.proofs.Common.{sym, ◌∙◌, ap, ap₂, arith, count_by, sum_by, zero-add}
 use Rattle.std.specs.List.{AllByRecursion}
 use Rattle.std.proofs.lemmas.List.Sums.{sum_by-cons, length-filter}
 use Rattle.std.proofs.lemmas.List.Sorted.{sum_by-IsPermutation}
 use Rattle.std.specs.List.Sorted.{IsPermutation}
 use Rattle.sp_lists.proofs.Elements.{filter_twice}
+
+-- a test counts for one at most
+pub at_most_one : (b : Bool) → cond b 1 0 ≤ 1
+at_most_one b = elim b as (λ b. cond b 1 0 ≤ 1) [ true ↦ omega arith | false ↦ omega arith ]
 
 -- a first element
 pub count-cons : {X : Type 0} (p : X → Bool) (x : X) (xs : List X) →

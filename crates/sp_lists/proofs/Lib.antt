@@ -10,3 +10,4 @@ pub mod Greatest
 pub mod Zips
 pub mod Backwards
 pub mod Comparing
+pub mod Finding

@@ -46,6 +46,13 @@ all_drop P (x ∷ xs) zero f = (
 )
 all_drop P (x ∷ xs) (suc n) f = all_drop P xs n (λ i d le in_range. f (suc i) d (omega arith) (omega arith))
 
+-- what holds of all holds from a place on
+pub all_from : {X : Type 0} (P : X → Type 0) (n : ℕ) (xs : List X) → AllByRecursion P xs → AllByRecursion P (drop n xs)
+all_from P zero [] h = h
+all_from P zero (x ∷ xs) h = h
+all_from P (suc n) [] h = h
+all_from P (suc n) (x ∷ xs) (h, hs) = all_from P n xs hs
+
 -- with one element put in place of another
 pub all_set : {X : Type 0} (P : X → Type 0) (xs : List X) (i : ℕ) (y : X) → P y → AllByRecursion P xs
     → AllByRecursion P (slice_set xs i y)

@@ -16,6 +16,12 @@ use Rattle.sp_shapes.proofs.Order.{equal_self, later_than}
 use Rattle.sp_fock_law.specs.Grid.{GridValue, IsGrid, row_of, cell_of}
 use Rattle.sp_module_defs.specs.Cells.{place, cell_at}
 
+-- ---- tables
+
+-- a table from its parts
+abbrev pub gridded : ℕ → List (List ℕ) → List (List ℕ) → List (List Laurent) → GridValue
+gridded n columns lines cells = record { degree = n; columns = columns; lines = lines; cells = cells }
+
 -- ---- lists that descend
 
 -- Each of the partitions is greater than all after it.

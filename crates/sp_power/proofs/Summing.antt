@@ -163,7 +163,8 @@ fits_none pairs run i t source s left limit d all lt at place is past so_far =
 
 -- What one move brings has powers within the limit.
 pub shift_near : (pairs : Entries) (t : Arrival) (source : ℕ) (x : ℤ) (d : List ℕ × Laurent) →
-    IsBrought pairs t → t.1 ≡ source → t.2 ≡ x → ProductWithin power_limit (monomial x (pos 1)) (get_or pairs source d).1
+    IsBrought pairs t → t.1 ≡ source → t.2 ≡ x →
+    ProductWithin power_limit (monomial x (pos 1)) (get_or pairs source d).1
 shift_near pairs t source x d b place exponent =
     product_near x (monomial x (pos 1)) (get_or pairs source d).1 refl
     (subst (λ z. unsigned_abs z ≤ 2000) exponent b.near)

@@ -11,7 +11,7 @@ use Rattle.sp_defs.specs.Power.{Entries, vector_of, entries, divided_power}
 use Rattle.sp_defs.specs.Signature.{Addable, Removable, Mark, row_marks, signature, add_node}
 use Rattle.sp_defs.specs.Within.{PowersWithin}
 use Rattle.sp_lists.proofs.Elements.{all_append, all_map, all_filter}
-use Rattle.sp_algebra.proofs.Sizes.{within_plus, within_times, product_within}
+use Rattle.sp_algebra.proofs.Sizes.{within_plus, within_times, product_within, sum_near}
 use Rattle.sp_shapes.proofs.Degrees.{length-degree}
 use Rattle.sp_lists.proofs.Places.{all_weaken}
 use Rattle.std.proofs.Math.Seq.{get_or-append_seam}
@@ -43,9 +43,6 @@ near_through b ((Addable, y) ∷ marks) (suc m) parts d x h =
   where
     one_up : (d : ℤ) → unsigned_abs (d +ℤ pos 1) ≤ unsigned_abs d + 1
     one_up d = omega (arith, ints)
-
-    sum_near : (x d : ℤ) → unsigned_abs (x +ℤ d) ≤ unsigned_abs x + unsigned_abs d
-    sum_near x d = omega (arith, ints)
 
     further : (z m : ℕ) → z ≤ unsigned_abs (x +ℤ d) + m * b → z ≤ unsigned_abs x + suc m * b
     further z m g = omega (arith, sum_near x d)

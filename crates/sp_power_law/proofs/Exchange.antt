@@ -73,7 +73,8 @@ module _ (e i m : ℕ) (he : 2 ≤ e) (nu : List ℕ) (pn : IsPartition nu) wher
           sum_over (cond b ((nu, length front, exponent e i s.0 nu) ∷ []) []) (share_of (front ++ (s ∷ es))) ≡ cond b
           (times (power (exponent e i s.0 nu)) s.1) []
       one true =
-          ap (λ p. plus (times (power (exponent e i s.0 nu)) p) []) (ap (λ x. x.1) (get_or-append_seam front s es ([], [])))
+          ap (λ p. plus (times (power (exponent e i s.0 nu)) p) [])
+          (ap (λ x. x.1) (get_or-append_seam front s es ([], [])))
           ∙ plus_nought (times (power (exponent e i s.0 nu)) s.1) (IsLaurent-times (power (exponent e i s.0 nu)) s.1)
       one false = refl
 

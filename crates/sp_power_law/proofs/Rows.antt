@@ -233,7 +233,8 @@ row_removable e i parts r hr =
         none = ap (λ b. b && (not (in_diagram parts (r, 0 + 1)) && not (in_diagram parts (r + 1, 0)))) outside
           where
             outside : in_diagram parts (r, 0) ≡ false
-            outside = false_from_ne_true (in_diagram parts (r, 0)) (λ h. let v = node_in parts r 0 h in omega (arith, v.column))
+            outside = false_from_ne_true (in_diagram parts (r, 0))
+                (λ h. let v = node_in parts r 0 h in omega (arith, v.column))
     by_length (suc p) is =
         count_last (λ c. is_removable parts (r, c) && nat_eq (residue e (r, c)) i) 1 p
         (λ c lo hi. inner c lo (omega arith))

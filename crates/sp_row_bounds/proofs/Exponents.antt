@@ -16,7 +16,7 @@ use Rattle.sp_defs.specs.Ladder.{Step, chains_to, chain_exponent, chain_sum, lad
 use Rattle.sp_defs.specs.Within.{PowersWithin}
 use Rattle.sp_lists.proofs.Counts.{count-cons}
 use Rattle.sp_lists.proofs.Elements.{all_filter, all_map}
-use Rattle.sp_algebra.proofs.Sizes.{within_plus, within_times, product_within}
+use Rattle.sp_algebra.proofs.Sizes.{within_plus, within_times, product_within, sum_near}
 use Rattle.sp_shapes.proofs.Degrees.{length-degree}
 use Rattle.sp_shapes.proofs.Diagram.{all_nodes}
 use Rattle.sp_shapes.proofs.Listing.{all_partitions}
@@ -77,9 +77,6 @@ int_sum_within : (b : ℕ) (xs : List ℤ) → AllByRecursion (λ x. unsigned_ab
 unfolding int_sum
 int_sum_within b [] h = omega arith
 int_sum_within b (x ∷ xs) (h, hs) = omega (arith, sum_near x (int_sum xs), int_sum_within b xs hs)
-  where
-    sum_near : (x y : ℤ) → unsigned_abs (x +ℤ y) ≤ unsigned_abs x + unsigned_abs y
-    sum_near x y = omega (arith, ints)
 
 -- The exponent of a move lies within the number of nodes added times the degree after it.
 pub exponent_within : (e i m : ℕ) (before after : List ℕ) → IsPartition after → length (added before after) ≡ m →

@@ -169,7 +169,7 @@ module _ (e : ℕ) (mu : List ℕ) (is : IsLabel e mu) where
   -- ---- the shares
 
   -- factors with the keys of the shares give the same with the rows of the triangle and with the regular rows
-  keyed_same : (fs : Factors) (lambda : List ℕ) → map (λ f. f.0) fs ≡ seg →
+  pub keyed_same : (fs : Factors) (lambda : List ℕ) → map (λ f. f.0) fs ≡ seg →
       combination (rows A seg) fs lambda ≡ combination (regular_row e) fs lambda
   keyed_same fs lambda k = rows_same e mu fs lambda
       (from_keys (IsBefore e mu) fs (subst (AllByRecursion (IsBefore e mu)) (sym k) (earlier_before e mu)))

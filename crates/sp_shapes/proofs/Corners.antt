@@ -162,7 +162,8 @@ addable_column parts r c h = beside f.left
 
     beside : (c ≡ 1) ⊎ (in_diagram parts (r, c - 1) ≡ true) → c ≡ part parts r + 1
     beside (inl e) = omega (arith, past (omega arith))
-    beside (inr i) = let v = node_in parts r (c - 1) i in omega (arith, v.column, v.within, past (omega (arith, v.column)))
+    beside (inr i) =
+        let v = node_in parts r (c - 1) i in omega (arith, v.column, v.within, past (omega (arith, v.column)))
 
 -- a removable one is the last of its row
 pub removable_column : (parts : List ℕ) (r c : ℕ) → is_removable parts (r, c) ≡ true → c ≡ part parts r

@@ -4,12 +4,9 @@ use Rattle.std.proofs.Common.{nat_lt, List, [], ◌∷◌, refl, sym, ap, subst,
 use Rattle.std.proofs.Common.{eqb-true, ne_eqb, lt-ltb}
 use Rattle.std.specs.List.{AllByRecursion}
 use Rattle.sp_defs.specs.Partition.{IsPartition, is_regular}
-use Rattle.sp_lists.proofs.Counts.{count-cons}
+use Rattle.sp_lists.proofs.Counts.{count-cons, at_most_one}
 use Rattle.sp_lists.proofs.Elements.{le_or_lt, tests_all}
 use Rattle.sp_shapes.proofs.Diagram.{IsPartition-tail, IsPartition-head}
-
-at_most_one : (b : Bool) → cond b 1 0 ≤ 1
-at_most_one b = elim b as (λ b. cond b 1 0 ≤ 1) [ true ↦ omega arith | false ↦ omega arith ]
 
 -- a part below p at place k: at most k parts are p
 few_equal : (xs : List ℕ) (p k : ℕ) → IsPartition xs → slice_index xs k < p → count_by (λ q. nat_eq q p) xs ≤ k

@@ -29,6 +29,7 @@ pub record IsCollected (n : ℕ) (w : Vector) (k : ℕ) (pairs : Entries) (indic
   pub within : AllByRecursion (λ i. i < length (partitions n)) indices
   pub at : map (λ i. get_or (partitions n) i []) indices ≡ map (λ t. t.0) pairs
 
+-- nothing is collected at the start
 pub collected_none : (n : ℕ) (w : Vector) → IsCollected n w 0 [] []
 collected_none n w = record { collected = refl; held = tt; within = tt; at = refl }
 
@@ -94,9 +95,11 @@ IsLaurent-nought = refl
 module _ (n : ℕ) (slots : List Slot) (start : AreSlots n slots) (pairs : Entries) (indices : List ℕ)
     (h : IsCollected n (coefficient_in n slots) (length (partitions n)) pairs indices)
     (all : take (length (partitions n)) (partitions n) ≡ partitions n) where
+  -- the pairs are the entries of the slots
   pub all_pairs : pairs ≡ entries n (coefficient_in n slots)
   all_pairs = h.collected ∙ ap (entries_at (coefficient_in n slots)) all
 
+  -- they may be held as a vector
   pub held_pairs : IsHeld (held_as n pairs)
   held_pairs = record {
     vector = subst (IsVector n) (sym all_pairs)
@@ -112,5 +115,6 @@ module _ (n : ℕ) (slots : List Slot) (start : AreSlots n slots) (pairs : Entri
           weaken [] k = tt
           weaken (s ∷ ss) (k, ks) = (k.laurent, weaken ss ks)
 
+  -- and the indices are the places of their partitions
   pub are_indices : (v : FockVector) → v ≡ held_as n pairs → AreIndices v indices
   are_indices v is = subst (λ u. AreIndices u indices) (sym is) (record { within = h.within; at = h.at })

@@ -1,5 +1,6 @@
 -- How slots grow where a multiple of a vector is subtracted, entry by entry.
-use Rattle.std.proofs.Common.{◌≡◌, ◌≢◌, ℕ, zero, suc, ◌+◌, ◌*◌, ◌<◌, ◌≤◌, cond, List, [], ◌∷◌, ◌++◌, map, take, length, ◌⊎◌}
+use Rattle.std.proofs.Common.{◌≡◌, ◌≢◌, ℕ, zero, suc, ◌+◌, ◌*◌, ◌<◌, ◌≤◌, cond, List, [], ◌∷◌, ◌++◌, map, take, length}
+use Rattle.std.proofs.Common.{◌⊎◌}
 use Rattle.std.proofs.Common.{get_or, refl, sym, ◌∙◌, ap, ap₂, subst, arith, is_eq, inl, inr, false}
 use Rattle.std.proofs.lemmas.List.{take_more, length-set, get_or-set_same, get_or-set_other}
 use Rattle.std.proofs.Math.ListN.{set}
@@ -102,6 +103,7 @@ pub record IsReached (n limit : ℕ) (a : Laurent) (es : Entries) (before slots 
 
 module _ (n limit : ℕ) (a : Laurent) (es : Entries) (before : List Slot) (start : AreSlots n before)
     (ascending : IsAscending es) where
+  -- before the first entry the slots are as they were
   pub reached_none : AllByRecursion (λ s. s.total ≤ limit) before → IsReached n limit a es before before 0
   unfolding vector_of
   reached_none fits = record {
@@ -133,6 +135,7 @@ module _ (n limit : ℕ) (a : Laurent) (es : Entries) (before : List Slot) (star
         ∙ grown-nought a (get_or before index nothing)
         (all_at IsSlot before index nothing start.each (omega (arith, start.count)))
 
+    -- one entry more
     pub reached_more : (s : Slot) → s ≡ grown a (get_or slots index nothing) t.1 → s.total ≤ limit →
         IsReached n limit a es before (set slots index s) (k + 1)
     reached_more s made small = record {
@@ -182,6 +185,7 @@ module _ (n limit : ℕ) (a : Laurent) (es : Entries) (before : List Slot) (star
 
 -- ---- the whole subtraction
 
+-- a negated polynomial has the same size
 pub size-negate : (a : Laurent) → IsLaurent a → size (negate a) ≡ size a
 size-negate a h = ap size (negate_is a h) ∙ size-negated a
 
@@ -207,6 +211,7 @@ module _ (n limit : ℕ) (a : Laurent) (w : FockVector) (before : List Slot) (st
         end.grown_at i lt
         ∙ ap (λ es. grown (negate a) (get_or before i nothing) (vector_of es (get_or (partitions n) i []))) all
 
+    -- the tally in the slots is the subtracted one
     pub subtracted_tally : tally_in n slots ≡ subtracted (tally_in n before) a w
     subtracted_tally =
         tally_from n slots
@@ -235,6 +240,7 @@ module _ (n limit : ℕ) (a : Laurent) (w : FockVector) (before : List Slot) (st
             (slot_of-at (partitions n) before (partitions_ascend n) start.count i lt))))
             (sym (grown_total-at i lt))
 
+    -- and its weight is within the limit
     pub weight_fits : subtraction_weight (tally_in n before) a w ≤ limit
     weight_fits =
         greatest_within limit (map (grown_total (tally_in n before) a w) (partitions n))

@@ -21,6 +21,7 @@ indices_count w indices h =
     ∙ ap length h.at
     ∙ length-map w.entries (λ t. t.0)
 
+-- the entry at a place, and the slot that it changes
 pub entry_at : (n : ℕ) (w : FockVector) (indices : List ℕ) (pairs : List (List ℕ × Laurent)) (k index : ℕ)
     (t : List ℕ × Laurent) → AreIndices w indices → n ≡ w.degree → pairs ≡ w.entries → k < length pairs →
     t ≡ get_or pairs k t → index ≡ get_or indices k 0 → IsEntry n w k index t

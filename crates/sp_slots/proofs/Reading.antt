@@ -60,8 +60,8 @@ slot_of-all P none (p ∷ ps) (s ∷ ss) (h, hs) lambda =
     ]
 
 -- what holds at each place of the list of all partitions holds at each partition
-pub each_place : (n : ℕ) (P : List ℕ → Type 0) → ((i : ℕ) → i < length (partitions n) → P (get_or (partitions n) i [])) →
-    (lambda : List ℕ) → IsPartitionOf n lambda → P lambda
+pub each_place : (n : ℕ) (P : List ℕ → Type 0) →
+    ((i : ℕ) → i < length (partitions n) → P (get_or (partitions n) i [])) → (lambda : List ℕ) → IsPartitionOf n lambda → P lambda
 each_place n P h lambda k =
     at_occurs P lambda (partitions n) (each_partition n lambda k.partition k.total) (all_places P (partitions n) [] h)
 
@@ -88,7 +88,8 @@ tally_value n es ts = record { vector = record { degree = n; entries = es }; tot
 
 -- what the slots have at the partitions makes the tally
 pub tally_from : (n : ℕ) (slots : List Slot) (v : Vector) (t : List ℕ → ℕ) →
-    ((lambda : List ℕ) → IsPartitionOf n lambda → slot_of (partitions n) slots lambda ≡ slot_with (v lambda) (t lambda)) →
+    ((lambda : List ℕ) → IsPartitionOf n lambda →
+    slot_of (partitions n) slots lambda ≡ slot_with (v lambda) (t lambda)) →
     tally_in n slots ≡ tally_value n (entries n v) (totals n t)
 tally_from n slots v t h =
     ap₂ (λ es ts. tally_value n es ts)
@@ -106,6 +107,7 @@ sized_tally v h =
     ∙ ap (λ es. tally_value v.degree es (totals v.degree (λ lambda. size (vector_of v.entries lambda))))
     (entries-vector_of v.degree v.entries h)
 
+-- the coefficients of a vector with their sizes are slots
 pub sized_slots : (v : FockVector) → IsVector v.degree v.entries →
     AreSlots v.degree (map (λ p. sized (vector_of v.entries p)) (partitions v.degree))
 sized_slots v h = record {

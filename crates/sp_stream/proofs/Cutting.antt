@@ -12,6 +12,7 @@ use Rattle.sp_stream.specs.Lines.{IsOneLine, begun_line, whole_lines, lines_of, 
 abbrev is_newline : ℕ → Bool
 is_newline b = b == NEWLINE
 
+-- a byte other than a newline is not taken for one
 pub is_other : (b : ℕ) → b ≢ NEWLINE → is_newline b ≡ false
 is_other b other = grind (arith, common_steps)
 
@@ -122,6 +123,7 @@ whole_lines-append (b ∷ bs) ys =
         ap (λ ls. ls ++ whole_lines (begun_line (b ∷ bs) ++ ys))
         (ap (onto_first b) some ∙ sym (whole_lines-other b bs e))
 
+-- the line begun by two texts is begun by the line that the first begins
 pub begun_line-append : (xs ys : List ℕ) → begun_line (xs ++ ys) ≡ begun_line (begun_line xs ++ ys)
 unfolding begun_line
 begun_line-append [] ys = refl
@@ -144,6 +146,7 @@ begun_line-append (b ∷ bs) ys =
         begun_line-behind b (bs ++ ys) line (lines ++ whole_lines (begun_line bs ++ ys)) e more ∙ below ∙
         ap (λ t. begun_line (t ++ ys)) (sym (begun_line-behind b bs line lines e some))
 
+-- the lines of two texts: the whole ones of the first, and then those from its begun line on
 pub lines_of-append : (xs ys : List ℕ) → lines_of (xs ++ ys) ≡ whole_lines xs ++ lines_of (begun_line xs ++ ys)
 lines_of-append xs ys =
     ap (λ ls. ls ++ unless_empty (begun_line (xs ++ ys))) (whole_lines-append xs ys) ∙
@@ -157,6 +160,7 @@ whole_lines-one_line [] one = refl
 whole_lines-one_line (b ∷ bs) one =
     whole_lines-other b bs (is_other b one.0) ∙ ap (onto_first b) (whole_lines-one_line bs one.1)
 
+-- a text without a newline is the line that it begins
 pub begun_line-one_line : (line : List ℕ) → IsOneLine line → begun_line line ≡ line
 unfolding begun_line
 begun_line-one_line [] one = refl
@@ -170,6 +174,7 @@ whole_lines-line [] rest one = whole_lines-newline NEWLINE rest refl
 whole_lines-line (b ∷ bs) rest one =
     whole_lines-other b (bs ++ NEWLINE ∷ rest) (is_other b one.0) ∙ ap (onto_first b) (whole_lines-line bs rest one.1)
 
+-- behind a newline a line is begun anew
 pub begun_line-line : (line rest : List ℕ) → IsOneLine line → begun_line (line ++ NEWLINE ∷ rest) ≡ begun_line rest
 begun_line-line [] rest one = begun_line-newline NEWLINE rest refl
 begun_line-line (b ∷ bs) rest one =
@@ -177,6 +182,7 @@ begun_line-line (b ∷ bs) rest one =
     (sym (whole_lines-line bs rest one.1)) ∙
     begun_line-line bs rest one.1
 
+-- two texts without a newline have none together
 pub one_line-append : (xs ys : List ℕ) → IsOneLine xs → IsOneLine ys → IsOneLine (xs ++ ys)
 one_line-append [] ys one two = two
 one_line-append (b ∷ bs) ys one two = (one.0, one_line-append bs ys one.1 two)
@@ -199,6 +205,7 @@ one_line-none_whole (b ∷ bs) none =
     some_whole : {ls : List (List ℕ)} → [] ≡ [] ∷ ls → ⊥
     some_whole e = cc
 
+-- a begun line has no newline
 pub one_line-begun : (bs : List ℕ) → IsOneLine (begun_line bs)
 unfolding begun_line
 one_line-begun [] = tt

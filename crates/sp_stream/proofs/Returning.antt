@@ -1,6 +1,7 @@
 -- What is returned, from what a call returned.
 use Rattle.std.proofs.Common.{Result, Ok, Err, OnErr, IfErr, IsErrAnd}
 
+-- what holds anyway holds on an error
 pub on_err : {T E P : Type 0} (result : Result T E) → P → OnErr result P
 on_err (Ok value) given = tt
 on_err (Err error) given = given

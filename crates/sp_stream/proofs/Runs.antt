@@ -15,7 +15,7 @@ use Rattle.sp_stream.specs.Served.{Answered, Takes, status_of}
 use Rattle.sp_stream.proofs.Feeding.{feeds_begun, feeds_both, feeds_puts, feeds_stops, transcript-feeds}
 
 -- a sink that is steady for more bytes than a text has
-fitting : (steady : ℕ → Type 0) (room many : ℕ) → many ≤ room → steady room → steady (many + (room - many))
+pub fitting : (steady : ℕ → Type 0) (room many : ℕ) → many ≤ room → steady room → steady (many + (room - many))
 fitting steady room many fits s = let same : room ≡ many + (room - many) = omega arith in subst steady same s
 
 -- why a run stopped that had no fault of the sink
@@ -49,6 +49,7 @@ module _ {Sink : Type 0} (written : Sink → Option (List ℕ)) (steady : Sink �
     pub told : IsTold sink now_left status
     pub calm : IsCalm sink status
 
+  -- nothing is taken before the first read
   pub nothing_taken : (now_left : Option (List ℕ)) → now_left ≡ Some input → HasTaken start first [] now_left 0
   nothing_taken now_left is = record {
     left = is;
@@ -110,6 +111,7 @@ module _ {Sink : Type 0} (written : Sink → Option (List ℕ)) (steady : Sink �
         subst (λ (t : List ℕ). Feeds written steady faults start sink rules first state pending t) whole has.feeds,
       )
 
+  -- a run whose last line and closing text were written put the whole transcript
   pub end_puts : (sink new : Sink) (now_rules : Rules State) (state : State) (pending last : List ℕ) →
       now_rules ≡ rules → Feeds written steady faults start sink rules first state pending input → last ≡ pending →
       Puts written steady faults sink new (transcript now_rules state last) →
@@ -122,6 +124,7 @@ module _ {Sink : Type 0} (written : Sink → Option (List ℕ)) (steady : Sink �
       subst (λ (t : List ℕ). Puts written steady faults start new (transcript rules first t)) (append-nil input)
       (feeds_puts written steady faults rules start sink new first state pending input [] feeds here)
 
+  -- a run that stopped there stopped within the texts of its input
   pub end_stops : (sink new : Sink) (now_rules : Rules State) (state : State) (pending last : List ℕ) (stop : Stop) →
       now_rules ≡ rules → Feeds written steady faults start sink rules first state pending input → last ≡ pending →
       Stops written steady faults sink new (texts_of now_rules state last) stop →
@@ -144,11 +147,13 @@ module _ {Sink : Type 0} (written : Sink → Option (List ℕ)) (steady : Sink �
   stops_told new now_left taken Memory stops left few bound =
       (taken, record { left = left; few = few; allowed = bound }, λ before is. stops.told before is)
 
+  -- a run that stopped had no fault of a sink that is steady for all
   pub stops_calm : (new : Sink) (stop : Stop) →
       Stops written steady faults start new (texts_of rules first input) stop → IsCalm new (status_of stop)
   stops_calm new Write stops room fits s = absurd (stops.not_calm _ (fitting (steady start) room _ fits s))
   stops_calm new Memory stops room fits s = (λ e. cc, stops.calm _ (fitting (steady start) room _ fits s))
 
+  -- nor had one that put the whole transcript
   pub puts_calm : (new : Sink) (status : Status) → status ≢ WriteFault →
       Puts written steady faults start new (transcript rules first input) → IsCalm new status
   puts_calm new status other puts room fits s = (other, (puts.calm _ (fitting (steady start) room _ fits s)).1)

@@ -1,5 +1,6 @@
 -- Texts that are written one after the other, and where that stops.
-use Rattle.std.proofs.Common.{◌≡◌, ◌≢◌, ◌≤◌, ◌<◌, ◌+◌, ◌-◌, ◌++◌, [], List, ℕ, Option, Some, length, take, length-append}
+use Rattle.std.proofs.Common.{◌≡◌, ◌≢◌, ◌≤◌, ◌<◌, ◌+◌, ◌-◌, ◌++◌, [], List, ℕ, Option, Some, length, take}
+use Rattle.std.proofs.Common.{length-append}
 use Rattle.std.proofs.Common.{append_assoc, append-nil, arith, ap, sym, ◌∙◌, refl, subst}
 use Rattle.std.specs.List.{concat}
 use Rattle.std.proofs.lemmas.Grind.{common_steps}
@@ -21,6 +22,7 @@ split_room steady one two room s =
     subst steady same s
 
 module _ {Sink : Type 0} (written : Sink → Option (List ℕ)) (steady : Sink → ℕ → Type 0) (faults : Sink → ℕ) where
+  -- nothing is put where nothing is done
   pub puts_nothing : (sink : Sink) → Puts written steady faults sink sink []
   puts_nothing sink = record {
     told = λ before is. is ∙ ap (λ t. Some t) (sym (append-nil before));
@@ -31,6 +33,7 @@ module _ {Sink : Type 0} (written : Sink → Option (List ℕ)) (steady : Sink �
       no_more : (room : ℕ) → length {A = ℕ} [] + room ≡ room
       no_more room = omega arith
 
+  -- two texts, one after the other
   pub puts_both : (old mid new : Sink) (one two : List ℕ) → Puts written steady faults old mid one →
       Puts written steady faults mid new two → Puts written steady faults old new (one ++ two)
   puts_both old mid new one two first second = record {
@@ -43,6 +46,7 @@ module _ {Sink : Type 0} (written : Sink → Option (List ℕ)) (steady : Sink �
     later = omega (arith, first.later, second.later);
   }
 
+  -- a break within the second of two texts is one within both
   pub breaks_later : (old mid new : Sink) (one two : List ℕ) → Puts written steady faults old mid one →
       Breaks written steady faults mid new two → Breaks written steady faults old new (one ++ two)
   breaks_later old mid new one two first second = record {
@@ -75,6 +79,7 @@ module _ {Sink : Type 0} (written : Sink → Option (List ℕ)) (steady : Sink �
     rose = breaks.rose;
   }
 
+  -- memory may run out before the first text
   pub runs_out_at_once : (sink : Sink) (texts : List (List ℕ)) → RunsOut written steady faults sink sink texts
   runs_out_at_once sink texts = record {
     told = λ before is. ([], texts, refl, is ∙ ap (λ t. Some t) (sym (append-nil before)));
@@ -82,6 +87,7 @@ module _ {Sink : Type 0} (written : Sink → Option (List ℕ)) (steady : Sink �
     later = omega arith;
   }
 
+  -- or after some that were put
   pub runs_out_later : (old mid new : Sink) (some others : List (List ℕ)) →
       Puts written steady faults old mid (concat some) → RunsOut written steady faults mid new others →
       RunsOut written steady faults old new (some ++ others)
@@ -103,6 +109,7 @@ module _ {Sink : Type 0} (written : Sink → Option (List ℕ)) (steady : Sink �
     later = omega (arith, first.later, second.later);
   }
 
+  -- or within the first of several
   pub runs_out_early : (old new : Sink) (some others : List (List ℕ)) → RunsOut written steady faults old new some →
       RunsOut written steady faults old new (some ++ others)
   runs_out_early old new some others runs_out = record {
@@ -164,11 +171,13 @@ module _ {Sink : Type 0} (written : Sink → Option (List ℕ)) (steady : Sink �
     rose = rose;
   }
 
+  -- a stop takes back no fault
   pub stops_faults : (old new : Sink) (texts : List (List ℕ)) (stop : Stop) →
       Stops written steady faults old new texts stop → faults old ≤ faults new
   stops_faults old new texts Write stops = stops.later
   stops_faults old new texts Memory stops = stops.later
 
+  -- a stop by the sink adds one
   pub stops_rose : (old new : Sink) (texts : List (List ℕ)) (stop : Stop) →
       Stops written steady faults old new texts stop → status_of stop ≡ WriteFault → Rose (faults old) (faults new)
   stops_rose old new texts Write stops is = stops.rose

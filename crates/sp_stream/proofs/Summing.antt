@@ -18,7 +18,8 @@ pub sum_with_reply : (texts : List (List ℕ)) (text : List ℕ) (s more : Summa
     IsSumOf texts s → IsSumOf (texts ++ text ∷ []) more
 sum_with_reply texts text s more w h = record {
   errors = w.errors ∙ ap (λ n. n + cond (tells_error text) 1 0) h.errors ∙ sym counted;
-  bytes = w.bytes ∙ ap (λ n. n + length text) h.bytes ∙ sym (length-append (concat texts) text) ∙ ap length (sym joined);
+  bytes = w.bytes ∙ ap (λ n. n + length text) h.bytes ∙ sym (length-append (concat texts) text)
+      ∙ ap length (sym joined);
   values = w.values ∙ ap (λ n. n + sum text) h.values ∙ sym (sum_by-append (λ x. x) (concat texts) text)
       ∙ ap sum (sym joined);
 }
@@ -52,7 +53,8 @@ lines_of-line line later one =
 
 -- the lines of one that no newline ends
 lines_of-one : (line : List ℕ) → IsOneLine line → lines_of line ≡ unless_empty line
-lines_of-one line one = ap₂ (λ ls b. ls ++ unless_empty b) (whole_lines-one_line line one) (begun_line-one_line line one)
+lines_of-one line one =
+    ap₂ (λ ls b. ls ++ unless_empty b) (whole_lines-one_line line one) (begun_line-one_line line one)
 
 module _ {State : Type 0} (rules : Rules State) (first : State) (input : List ℕ) where
   -- The replies to the lines before `rest` are summed up.

@@ -1,4 +1,5 @@
-use Rattle.std.proofs.Common.{◌≡◌, ◌+◌, ◌-◌, ◌++◌, ◌∷◌, [], List, ℕ, Some, None, false, length, take, drop, arith, ap, sym, ◌∙◌, subst}
+use Rattle.std.proofs.Common.{◌≡◌, ◌+◌, ◌-◌, ◌++◌, ◌∷◌, [], List, ℕ, Some, None, false, length, take, drop, arith, ap}
+use Rattle.std.proofs.Common.{sym, ◌∙◌, subst}
 use Rattle.std.proofs.lemmas.Grind.{common_steps}
 use Rattle.sp_stream.specs.declared.lines.TheConstants.{NEWLINE}
 use Rattle.sp_stream.specs.Lines.{IsOneLine, unless_empty}
@@ -20,8 +21,8 @@ loop-end-preserved g c =
     let done = c.in_ok-summary.ensures in (
       done.same ∙ at.0,
       summed_next (g.A.Answers.rules c.args.answers.now) (g.A.Answers.state c.args.answers.now) c.args.input.now now
-          (g.A.Answers.state c.with_reply.new.answers) rest (take i rest) later c.loop-end.summary c.in_ok-summary.summary
-          at.1 (found.1 ∙ ap (λ t. take i rest ++ NEWLINE ∷ t) (sym later_is)) found.0
+          (g.A.Answers.state c.with_reply.new.answers) rest (take i rest) later c.loop-end.summary
+          c.in_ok-summary.summary at.1 (found.1 ∙ ap (λ t. take i rest ++ NEWLINE ∷ t) (sym later_is)) found.0
           (done.next ∙ ap (λ (r : Rules g.A.Answers.State). r.next now (take i rest)) at.0)
           (λ texts h. subst (λ (r : Rules g.A.Answers.State).
           IsSumOf (texts ++ r.reply now (take i rest) ∷ []) c.in_ok-summary.summary) at.0 (done.sums texts h))

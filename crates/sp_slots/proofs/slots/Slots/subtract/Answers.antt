@@ -154,7 +154,8 @@ returns-in-Err-clause-too_large c large =
     (weight_past n c.args.limit c.args.a.now w before c.self.invariant c.terms-held.ensures.held.laurent
     (ascending c.vector.result.now w c.vector.ensures c.pairs-pairs.ensures.held) slots c.loop-k.k index t
     c.loop-k.invariant e.lt e.within e.is e.at
-    (subst (λ m. c.args.limit < m) (ap (λ (s : Slot). s.total) total) (let is : c.in-Err.fault ≡ TooLarge = cc in c.in-Err.ensures.too_large (ap Err is))))
+    (subst (λ m. c.args.limit < m) (ap (λ (s : Slot). s.total) total)
+    (let is : c.in-Err.fault ≡ TooLarge = cc in c.in-Err.ensures.too_large (ap Err is))))
 
 pub invariant_of-result : goal.invariant_of-result
 invariant_of-result c = record { count = c.loop-k.invariant.count; each = c.loop-k.invariant.each }
