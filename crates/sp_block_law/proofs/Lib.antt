@@ -1,0 +1,5 @@
+pub mod BeadSteps
+pub mod Heights
+pub mod Contents
+pub mod Law
+pub mod RowBlocks

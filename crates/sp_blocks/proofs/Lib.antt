@@ -1,0 +1,4 @@
+pub mod Same
+pub mod Firsts
+pub mod OneMore
+pub mod Finding
