@@ -1,7 +1,7 @@
--- Each node of a row is one step of the row's bead: the node of residue i leads it from runner i - 1 to runner i. So the
--- nodes of residue i, less those of residue i + 1, are the beads that runner i has gained.
+-- Each node of a row is one step of the row's bead: a node of residue i leads it from runner i - 1 to runner i. So
+-- runner i gains a bead for each node of residue i, and loses one for each node of residue i + 1.
 use Rattle.std.proofs.Common.{◌≡◌, ℕ, zero, suc, ◌+◌, ◌-◌, ◌*◌, ◌/◌, ◌%◌, ◌<◌, ◌≤◌, Bool, true, false, cond, nat_eq}
-use Rattle.std.proofs.Common.{List, [], ◌∷◌, ◌++◌, map, length, count_by, refl, sym, ◌∙◌, ap, ap₂, arith}
+use Rattle.std.proofs.Common.{List, [], ◌∷◌, ◌++◌, map, length, count_by, sym, ◌∙◌, ap, ap₂, arith}
 use Rattle.std.proofs.Common.{eqb-true, eq-eqb, mul-le-mul_right, ◌⊎◌, inl, inr}
 use Rattle.std.specs.List.{range_with_len}
 use Rattle.std.proofs.lemmas.List.Sums.{sum_by-append}
@@ -78,7 +78,8 @@ row_steps e i r k j b zero he hi total = ap (λ m. one_if (nat_eq ((k + m) % e) 
     plain : (b : ℕ) → b + 0 ≡ b
     plain b = omega arith
 row_steps e i r k j b (suc n) he hi total =
-    ap₂ (λ m x. one_if (nat_eq ((k + m) % e) i) + x) (moved b n) (count-cons (λ x. nat_eq (residue e x) ((i + 1) % e)) (r, b + 1) rest)
+    ap₂ (λ m x. one_if (nat_eq ((k + m) % e) i) + x) (moved b n)
+    (count-cons (λ x. nat_eq (residue e x) ((i + 1) % e)) (r, b + 1) rest)
     ∙ ap (λ v. one_if (nat_eq ((k + (b + 1 + n)) % e) i) + (one_if v + of_residue e ((i + 1) % e) rest)) step
     ∙ turned (one_if (nat_eq ((k + (b + 1 + n)) % e) i)) (one_if (nat_eq ((k + b) % e) i))
     (of_residue e ((i + 1) % e) rest)

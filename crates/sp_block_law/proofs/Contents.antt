@@ -1,6 +1,6 @@
 -- Contents add up to the degree, and their differences give them back.
-use Rattle.std.proofs.Common.{◌≡◌, ℕ, zero, suc, ◌+◌, ◌-◌, ◌*◌, ◌%◌, ◌<◌, ◌≤◌, nat_eq, false, List, [], ◌∷◌, map, filter}
-use Rattle.std.proofs.Common.{length, count_by, sum_by, refl, sym, ◌∙◌, ap, ap₂, arith, ne_eqb, ◌⊎◌, inl, inr}
+use Rattle.std.proofs.Common.{◌≡◌, ℕ, zero, suc, ◌+◌, ◌-◌, ◌*◌, ◌%◌, ◌<◌, ◌≤◌, nat_eq, false, List, [], ◌∷◌, map}
+use Rattle.std.proofs.Common.{filter, length, sum_by, sym, ◌∙◌, ap, ap₂, arith, ne_eqb, ◌⊎◌, inl, inr}
 use Rattle.std.proofs.Common.{mul-le-mul_left}
 use Rattle.std.specs.List.{AllByRecursion, range_with_len}
 use Rattle.std.proofs.lemmas.List.{length-map}

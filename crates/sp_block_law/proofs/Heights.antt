@@ -2,7 +2,7 @@
 use Rattle.std.proofs.Common.{◌≡◌, ℕ, ◌+◌, ◌*◌, ◌%◌, ◌<◌, ◌≤◌, List, length, sym, ◌∙◌, ap, ap₂, arith}
 use Rattle.sp_defs.specs.Node.{content}
 use Rattle.sp_defs.specs.Abacus.{shown, runner, core}
-use Rattle.sp_abacus_law.specs.Beads.{down, numbers}
+use Rattle.sp_abacus_law.specs.Beads.{numbers}
 use Rattle.sp_abacus_law.proofs.Falling.{length-down}
 use Rattle.sp_abacus_law.proofs.Numbers.{length-numbers}
 use Rattle.sp_abacus_law.proofs.Shown.{numbers-shown}

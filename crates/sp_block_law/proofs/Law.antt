@@ -1,9 +1,7 @@
 -- Two partitions of one degree have the same core exactly where they have the same content.
-use Rattle.std.proofs.Common.{◌≡◌, ℕ, ◌+◌, ◌*◌, ◌%◌, ◌<◌, ◌≤◌, List, length, sym, ◌∙◌, ap, arith, mul-le-mul_left}
+use Rattle.std.proofs.Common.{◌≡◌, ℕ, ◌+◌, ◌*◌, ◌%◌, ◌≤◌, List, length, sym, ◌∙◌, arith, mul-le-mul_left}
 use Rattle.std.specs.List.{range_with_len}
-use Rattle.sp_defs.specs.Partition.{degree, IsPartition}
 use Rattle.sp_defs.specs.Node.{content}
-use Rattle.sp_defs.specs.Abacus.{core}
 use Rattle.sp_defs.specs.Statements.{SameContent}
 use Rattle.sp_lists.proofs.Elements.{all_every}
 use Rattle.sp_lists.proofs.Sums.{sum-alike}

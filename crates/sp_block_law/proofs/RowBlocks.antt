@@ -1,10 +1,9 @@
 -- Rows stay in their blocks: what is in a row, and all that it is made from, has its content.
-use Rattle.std.proofs.Common.{◌≡◌, ◌≢◌, ℕ, true, false, cond, List, [], ◌∷◌, map, refl, sym, ◌∙◌, ap, subst, ◌⊎◌, inl, inr}
+use Rattle.std.proofs.Common.{◌≡◌, ◌≢◌, ℕ, true, false, cond, List, [], ◌∷◌, refl, sym, ◌∙◌, subst}
 use Rattle.std.proofs.Common.{Bool, Ordering, Less, Equal, Greater}
 use Rattle.std.specs.List.{AllByRecursion}
 use Rattle.std.specs.Ordering.{is_eq}
 use Rattle.sp_defs.specs.Partition.{degree, compare}
-use Rattle.sp_defs.specs.Laurent.{Laurent}
 use Rattle.sp_defs.specs.Power.{vector_of}
 use Rattle.sp_defs.specs.Row.{Factors, earlier, shares, share, IsNeeded}
 use Rattle.sp_defs.specs.Row.IsNeeded.{itself, through}
@@ -16,7 +15,7 @@ use Rattle.sp_triangle.proofs.Shares.{from_keys}
 use Rattle.sp_row_law.proofs.Setting.{Good, good_earlier, label}
 use Rattle.sp_row_law.proofs.Contents.{row_content_law}
 use Rattle.sp_outcome_law.proofs.Ranks.{keys}
-use Rattle.sp_block_law.specs.Blocks.{InOneBlock, RowBlock, RowBlockLaw}
+use Rattle.sp_block_law.specs.Blocks.{InOneBlock, RowBlockLaw}
 use Rattle.sp_block_law.proofs.Law.{content_block}
 
 -- The partitions with shares are labels.

@@ -1,19 +1,15 @@
 -- The block of a core, where the map tells.
-use Rattle.std.proofs.Common.{◌≡◌, ◌≢◌, ℕ, zero, suc, ◌<◌, cond, true, false, List, [], ◌∷◌, ◌++◌, map, length, get_or}
-use Rattle.std.proofs.Common.{Ordering, Less, Equal, Greater}
-use Rattle.std.proofs.lemmas.Cmp.{tied_itself}
-use Rattle.sp_partition.specs.OrderLaws.{order_equal, order_total}
-use Rattle.std.proofs.Common.{Some, None, refl, sym, ◌∙◌, ap, ap₂, arith, ◌⊎◌, inl, inr}
+use Rattle.std.proofs.Common.{◌≡◌, ◌≢◌, ℕ, zero, suc, ◌<◌, cond, List, [], ◌∷◌, ◌++◌, length, get_or}
+use Rattle.std.proofs.Common.{Some, None, refl, sym, ◌∙◌, ap, arith, ◌⊎◌, inl, inr}
 use Rattle.std.proofs.Math.ListN.{set}
 use Rattle.std.specs.List.{slice_get}
 use Rattle.std.specs.BTreeMap.{BTreeMap, get, Updates}
-use Rattle.std.specs.Ordering.{is_eq}
 use Rattle.std.proofs.lemmas.Option.{slice_get_within}
 use Rattle.std.proofs.lemmas.List.{length-map, map-append}
-use Rattle.sp_defs.specs.Partition.{compare, order}
+use Rattle.sp_defs.specs.Partition.{order}
 use Rattle.sp_blocks.specs.declared.block.Block.{Block}
 use Rattle.sp_blocks.specs.Indexed.{with_rank, cores, Indexed}
-use Rattle.sp_blocks.proofs.Same.{Told, tells, passes, fails}
+use Rattle.sp_blocks.proofs.Same.{ToldByOrder, order_tells, passes, fails}
 
 -- The block with one rank more.
 abbrev pub longer : Block → ℕ → Block
@@ -113,15 +109,6 @@ pub indexed_new : (places more : BTreeMap (List ℕ) ℕ) (bs : List Block) (b :
     Indexed more (bs ++ b ∷ [])
 indexed_new places more bs b h none updates = record { at = λ q j. (there q j, back q j) }
   where
-    told : (q : List ℕ) → ((is_eq (order b.core q) ≡ true) × (b.core ≡ q)) ⊎ ((is_eq (order b.core q) ≡ false) × (b.core ≢ q))
-    told q = settle (order b.core q) refl
-      where
-        settle : (o : Ordering) → order b.core q ≡ o →
-            ((is_eq (order b.core q) ≡ true) × (b.core ≡ q)) ⊎ ((is_eq (order b.core q) ≡ false) × (b.core ≢ q))
-        settle Less o = inr (ap is_eq o, λ e. absurd (let own = ap (order b.core) (sym e) ∙ tied_itself order_total b.core in cc))
-        settle Equal o = inl (ap is_eq o, order_equal b.core q o)
-        settle Greater o = inr (ap is_eq o, λ e. absurd (let own = ap (order b.core) (sym e) ∙ tied_itself order_total b.core in cc))
-
     all_cores : cores (bs ++ b ∷ []) ≡ cores bs ++ b.core ∷ []
     all_cores = map-append (λ b. b.core) bs (b ∷ [])
 
@@ -129,9 +116,9 @@ indexed_new places more bs b h none updates = record { at = λ q j. (there q j, 
     count = length-map bs (λ b. b.core)
 
     there : (q : List ℕ) (j : ℕ) → get order more q ≡ Some j → slice_get (cores (bs ++ b ∷ [])) j ≡ Some q
-    there q j is = ap (λ cs. slice_get cs j) all_cores ∙ settle (told q)
+    there q j is = ap (λ cs. slice_get cs j) all_cores ∙ settle (order_tells b.core q)
       where
-        settle : ((is_eq (order b.core q) ≡ true) × (b.core ≡ q)) ⊎ ((is_eq (order b.core q) ≡ false) × (b.core ≢ q)) →
+        settle : ToldByOrder b.core q →
             slice_get (cores bs ++ b.core ∷ []) j ≡ Some q
         settle (inl (t, same)) =
             let at = updates.0 q ∙ ap (λ v. cond v (Some (length bs)) (get order places q)) t in
@@ -143,9 +130,9 @@ indexed_new places more bs b h none updates = record { at = λ q j. (there q j, 
 
     back : (q : List ℕ) (j : ℕ) → slice_get (cores (bs ++ b ∷ [])) j ≡ Some q → get order more q ≡ Some j
     back q j is =
-        settle (told q) (snoc_get (cores bs) b.core q j (ap (λ cs. slice_get cs j) (sym all_cores) ∙ is))
+        settle (order_tells b.core q) (snoc_get (cores bs) b.core q j (ap (λ cs. slice_get cs j) (sym all_cores) ∙ is))
       where
-        settle : ((is_eq (order b.core q) ≡ true) × (b.core ≡ q)) ⊎ ((is_eq (order b.core q) ≡ false) × (b.core ≢ q)) →
+        settle : ToldByOrder b.core q →
             (slice_get (cores bs) j ≡ Some q) ⊎ ((j ≡ length (cores bs)) × (b.core ≡ q)) → get order more q ≡ Some j
         settle (inl (t, same)) (inl at) =
             absurd (let here = (h.at q j).1 at in let gone = ap (get order places) (sym same) ∙ none in cc)

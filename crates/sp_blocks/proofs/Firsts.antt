@@ -1,14 +1,12 @@
 -- The places whose core no earlier place has: each core of a place is that of one of them, and their cores differ.
 use Rattle.std.proofs.Common.{◌≡◌, ◌≢◌, ℕ, zero, suc, ◌+◌, Bool, true, false, cond, not, ◌||◌, List, [], ◌∷◌, ◌++◌}
-use Rattle.std.proofs.Common.{filter, refl, sym, ◌∙◌, ap, ap₂, subst, arith, ◌⊎◌, inl, inr}
+use Rattle.std.proofs.Common.{filter, refl, sym, ◌∙◌, ap, subst, arith, inl, inr}
 use Rattle.std.specs.List.{AllByRecursion, list_any, range_with_len}
-use Rattle.std.specs.Ordering.{is_eq}
 use Rattle.std.proofs.lemmas.List.Folds.{list_any-append}
 use Rattle.std.proofs.lemmas.List.{append-nil}
-use Rattle.sp_defs.specs.Partition.{compare}
-use Rattle.sp_lists.proofs.Elements.{filter_append, range_snoc, or_split}
+use Rattle.sp_lists.proofs.Elements.{filter_append, range_snoc}
 use Rattle.sp_blocks.specs.Blocks.{has_core, is_first}
-use Rattle.sp_blocks.proofs.Same.{Told, tells, passes, fails}
+use Rattle.sp_blocks.proofs.Same.{Told, tells}
 
 plain : (n : ℕ) → 0 + n ≡ n
 plain n = omega arith

@@ -1,6 +1,6 @@
 -- One place more: its rank goes into the block of its core, or into a new one behind the others.
-use Rattle.std.proofs.Common.{◌≡◌, ◌≢◌, ℕ, suc, Bool, true, false, cond, not, ◌||◌, List, [], ◌∷◌, ◌++◌, map, filter}
-use Rattle.std.proofs.Common.{refl, sym, ◌∙◌, ap, ap₂, ◌⊎◌, inl, inr}
+use Rattle.std.proofs.Common.{◌≡◌, ◌≢◌, ℕ, suc, Bool, true, false, cond, not, ◌||◌, List, [], ◌∷◌, ◌++◌, map}
+use Rattle.std.proofs.Common.{refl, sym, ◌∙◌, ap, ap₂, inl, inr}
 use Rattle.std.specs.List.{AllByRecursion, list_any, range_with_len}
 use Rattle.std.specs.Ordering.{is_eq}
 use Rattle.std.proofs.lemmas.List.{append-nil, map-append}
@@ -16,7 +16,7 @@ use Rattle.sp_blocks.proofs.Firsts.{kept_more, firsts, any_firsts, Apart, firsts
 
 module _ (core_of : ℕ → List ℕ) where
   -- The block of a place's core, with its ranks below n.
-  abbrev block_at : ℕ → ℕ → Block
+  abbrev pub block_at : ℕ → ℕ → Block
   block_at n k = record { core = core_of k; ranks = places_with core_of n (core_of k) }
 
   new_block : ℕ → Block
@@ -78,7 +78,8 @@ module _ (core_of : ℕ → List ℕ) where
           (λ v. (block_at (suc n) k ∷ map (block_at (suc n)) ks)
           ++ new (v || list_any (has_core core_of (core_of n)) ks)) (sym t)
 
-  none_at : (kappa : List ℕ) (ks : List ℕ) → list_any (has_core core_of kappa) ks ≡ false →
+  -- Where none of these has a core, each has another.
+  pub none_at : (kappa : List ℕ) (ks : List ℕ) → list_any (has_core core_of kappa) ks ≡ false →
       AllByRecursion (λ k. has_core core_of kappa k ≡ false) ks
   none_at kappa [] h = tt
   none_at kappa (k ∷ ks) h = settle (has_core core_of kappa k) refl h (none_at kappa ks)

@@ -1,6 +1,8 @@
 -- The blocks of a list of partitions.
-use Rattle.std.specs.Prelude.{ℕ, Bool, not, List, [], map, filter, length, slice_index_or}
-use Rattle.std.specs.List.{list_any, range_with_len}
+use Rattle.std.specs.Prelude.{◌≡◌, ◌≢◌, ℕ, ◌<◌, Bool, not, nat_eq, List, [], map, filter, flat_map, count_by, length}
+use Rattle.std.specs.Prelude.{slice_index, slice_index_or}
+use Rattle.std.specs.List.{AllByRecursion, list_any, range_with_len}
+use Rattle.std.specs.List.Sorted.{IsStrictlyIncreasing}
 use Rattle.std.specs.Ordering.{is_eq}
 use Rattle.sp_defs.specs.Partition.{compare}
 use Rattle.sp_defs.specs.Abacus.{core}
@@ -33,3 +35,12 @@ blocks_below core_of n =
 -- places of the partitions that have it (this project's own).
 abbrev pub blocks_of : ℕ → List (List ℕ) → List Block
 blocks_of e list = blocks_below (core_at e list) (length list)
+
+-- Each place below n stands in exactly one block, that of its core, and there once. Ranks ascend, no block is empty,
+-- and the blocks stand in the order of their least ranks (this project's own).
+pub record ArePlaced (core_of : ℕ → List ℕ) (n : ℕ) (bs : List Block) : Type 0 where
+  pub once : (k : ℕ) → k < n → count_by (nat_eq k) (flat_map (λ b. b.ranks) bs) ≡ 1
+  pub own : AllByRecursion (λ b. AllByRecursion (λ k. (k < n) × (core_of k ≡ b.core)) b.ranks) bs
+  pub ascend : AllByRecursion (λ b. IsStrictlyIncreasing b.ranks) bs
+  pub filled : AllByRecursion (λ b. b.ranks ≢ []) bs
+  pub order : IsStrictlyIncreasing (map (λ b. slice_index b.ranks 0) bs)

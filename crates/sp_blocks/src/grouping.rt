@@ -1,8 +1,6 @@
 // The partitions of a list, grouped by their cores.
-ghost use Rattle.std.specs.Prelude.{◌≡◌, ℕ, ◌<◌, ◌≤◌, length, slice_index_or, [], IfOk, OnOk};
-ghost use Rattle.std.specs.declared.cmp.Ordering.TheVariants.{Less};
-ghost use Rattle.sp_defs.specs.Partition.{degree as degree_of, compare};
-ghost use Rattle.sp_blocks.specs.Blocks.{blocks_of};
+ghost use Rattle.std.specs.Prelude.{◌≡◌, ◌≤◌, length, IfOk, OnOk};
+ghost use Rattle.sp_blocks.specs.Blocks.{core_at, blocks_of, ArePlaced};
 ghost use Rattle.sp_blocks.specs.Indexed.{with_rank, Indexed};
 
 use crate::block::{Block, add_rank};
@@ -11,12 +9,15 @@ use sp_partition::{Items, Partition};
 use std::alloc::{AllocError, Global};
 use std::collections::BTreeMap;
 
-/// The blocks of a list of partitions of one degree, which ascend strictly. Each place of the list stands in exactly
-/// one block, that of its partition's core. The blocks are ordered by their least ranks.
+/// The partitions of a list, grouped by their cores: its blocks, where they have one degree.
+///
+/// Each place of the list stands in exactly one block, that of its partition's core. The blocks are ordered by their
+/// least ranks. Each core is worked out once, and its block is found by a search.
 pub fn blocks(alloc: Global, e: u8, list: &[Partition]) -> Result<Vec<Block>, AllocError>
     requires e_least { 2 ≤ e }
     requires e_most { e ≤ 64 }
-    ensures { IfOk result (λ found. found.items ≡ blocks_of e list.now) }
+    ensures value { IfOk result (λ found. found.items ≡ blocks_of e list.now) }
+    ensures placed { IfOk result (λ found. ArePlaced (core_at e list.now) (length list.now) found.items) }
 {
     let mut found = Vec::new(alloc);
     // where the block of a core stands

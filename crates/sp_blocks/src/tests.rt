@@ -5,7 +5,6 @@ use crate::{Block, blocks, same_block};
 use sp_nodes::content;
 use sp_partition::{Partition, all_of};
 use std::alloc::Global;
-use std::process::Abort;
 use std::test::Fail;
 
 // Whether the block has this core and these ranks.

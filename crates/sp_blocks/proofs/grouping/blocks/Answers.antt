@@ -1,10 +1,11 @@
 -- One place more.
-use Rattle.std.proofs.Common.{◌≡◌, ℕ, suc, ◌+◌, sym, ◌∙◌, ap, ap₂, subst, add-one, []}
+use Rattle.std.proofs.Common.{◌≡◌, sym, ◌∙◌, ap, ap₂, subst, add-one, [], length, arith}
 use Rattle.std.proofs.lemmas.List.{get_or_default}
 use Rattle.sp_defs.specs.Abacus.{core}
-use Rattle.sp_blocks.specs.Blocks.{core_at, blocks_below}
+use Rattle.sp_blocks.specs.Blocks.{core_at, blocks_below, ArePlaced}
 use Rattle.sp_blocks.specs.Indexed.{with_rank}
 use Rattle.sp_blocks.proofs.OneMore.{blocks_more}
+use Rattle.sp_blocks.proofs.Placed.{are_placed}
 use Rattle.sp_blocks.proofs.grouping.blocks.Goals as goal
 
 pub loop-rank-preserved : goal.loop-rank-preserved
@@ -22,3 +23,12 @@ loop-rank-preserved c = record {
         ∙ ap (core c.args.e)
         (c.index-list-rank.is
         ∙ get_or_default c.args.list.now c.loop-rank.rank c.index-list-rank.result [] c.loop-rank-test.true)
+
+pub returns-clause-placed : goal.returns-clause-placed
+returns-clause-placed c =
+    subst (ArePlaced (core_at c.args.e c.args.list.now) (length c.args.list.now))
+    (sym (c.loop-rank.invariant.is ∙ ap (blocks_below (core_at c.args.e c.args.list.now)) all))
+    (are_placed (core_at c.args.e c.args.list.now) (length c.args.list.now))
+  where
+    all : c.loop-rank.rank ≡ length c.args.list.now
+    all = omega arith

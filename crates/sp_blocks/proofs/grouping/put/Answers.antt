@@ -1,11 +1,9 @@
 -- The rank goes where the map tells, or into a new block.
-use Rattle.std.proofs.Common.{◌≡◌, ℕ, Some, None, sym, ◌∙◌, ap, arith, subst, get_or, length, ◌++◌, ◌∷◌, []}
+use Rattle.std.proofs.Common.{◌≡◌, Some, None, sym, ◌∙◌, ap, arith, subst, ◌++◌, ◌∷◌, []}
 use Rattle.std.proofs.Math.ListN.{set}
 use Rattle.std.specs.BTreeMap.{get, Updates}
-use Rattle.std.specs.Option.{option_copied}
 use Rattle.std.proofs.lemmas.Result.{on_ok_weaker}
 use Rattle.sp_defs.specs.Partition.{order}
-use Rattle.sp_blocks.specs.declared.block.Block.{Block}
 use Rattle.sp_blocks.specs.Indexed.{Indexed}
 use Rattle.sp_blocks.proofs.Finding.{longer, place_within, rank_added, rank_new, indexed_added, indexed_new}
 use Rattle.sp_blocks.proofs.grouping.put.Goals as goal
