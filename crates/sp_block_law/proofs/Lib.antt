@@ -3,3 +3,4 @@ pub mod Heights
 pub mod Contents
 pub mod Law
 pub mod RowBlocks
+pub mod Worked

@@ -1,5 +1,5 @@
 -- Rows stay in their blocks: what is in a row, and all that it is made from, has its content.
-use Rattle.std.proofs.Common.{◌≡◌, ◌≢◌, ℕ, true, false, cond, List, [], ◌∷◌, refl, sym, ◌∙◌, subst}
+use Rattle.std.proofs.Common.{◌≡◌, ◌≢◌, ℕ, true, false, cond, Some, None, List, [], ◌∷◌, refl, sym, ◌∙◌, subst}
 use Rattle.std.proofs.Common.{Bool, Ordering, Less, Equal, Greater}
 use Rattle.std.specs.List.{AllByRecursion}
 use Rattle.std.specs.Ordering.{is_eq}
@@ -14,7 +14,9 @@ use Rattle.sp_shapes.proofs.Order.{same_lists}
 use Rattle.sp_triangle.proofs.Shares.{from_keys}
 use Rattle.sp_row_law.proofs.Setting.{Good, good_earlier, label}
 use Rattle.sp_row_law.proofs.Contents.{row_content_law}
-use Rattle.sp_outcome_law.proofs.Ranks.{keys}
+use Rattle.sp_outcome_law.specs.Asking.{share_at, next_rank, is_past, asked}
+use Rattle.sp_outcome_law.proofs.Ranks.{keys, earlier_at}
+use Rattle.sp_outcome_law.proofs.Next.{is_next}
 use Rattle.sp_block_law.specs.Blocks.{InOneBlock, RowBlockLaw}
 use Rattle.sp_block_law.proofs.Law.{content_block}
 
@@ -69,10 +71,23 @@ needed_block e kappa mu (through mu' nu ne needed) h =
     let step : IsLabel e nu × InOneBlock e mu' nu = share_step e mu' nu h ne in
     joined e mu' nu kappa step.1 (needed_block e kappa nu needed step.0)
 
+-- A rank that is asked for is the next one.
+asked_next : (e limit : ℕ) (mu : List ℕ) (t j : ℕ) → asked e limit mu t ≡ Some j → next_rank e mu t ≡ Some j
+unfolding asked
+asked_next e limit mu t j h = settle (is_past e limit mu t) h
+  where
+    settle : (v : Bool) → cond v None (next_rank e mu t) ≡ Some j → next_rank e mu t ≡ Some j
+    settle true none = absurd (cc)
+    settle false some = some
+
 -- The law of blocks for rows.
 pub row_block_law : RowBlockLaw
 row_block_law e mu h = record {
   row = λ lambda _ ne. content_block e mu lambda h.e_least ((row_content_law e mu h).row lambda ne);
   shares_at = share_blocks e mu h;
+  asks = λ limit t j is.
+      let next = is_next e mu h t j (asked_next e limit mu t j is) in
+      subst (InOneBlock e mu) (sym (earlier_at e mu h j [] next.rank)) (content_block e mu (share_at e mu j).0
+      h.e_least next.content);
   needed = λ kappa needed. needed_block e kappa mu needed h;
 }

@@ -5,6 +5,7 @@ ghost use Rattle.sp_block_law.specs.Blocks.{BlockLaw, RowBlockLaw};
 pub fn block_law()
     // two partitions of one degree have the same core exactly where they have as many nodes of each residue
     ensures law { BlockLaw }
-    // so a regular row, the partitions of its shares and all that it needs are in one block
+    // so a regular row, the partitions of its shares, those that are asked for on the way to it and all that it needs
+    // are in one block
     ensures rows { RowBlockLaw }
 {}

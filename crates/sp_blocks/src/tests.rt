@@ -92,3 +92,12 @@ fn blocks_by_contents(rt: HostRuntime) -> Result<(), Fail> {
     }
     Ok(())
 }
+
+#[test]
+fn how_many_blocks_of_thirty(rt: HostRuntime) -> Result<(), Fail> {
+    let list = all_of(rt.alloc(), 30)?;
+    for (e, count) in [(2, 4), (3, 14), (4, 35), (5, 82), (11, 1452)] {
+        assert_eq!(rt; blocks(rt.alloc(), e, &list)?.len(), count);
+    }
+    Ok(())
+}
