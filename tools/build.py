@@ -100,6 +100,7 @@ class Lane:
     def __init__(self, folder, order):
         self.folder = folder
         self.work = None
+        self.copied = time.time()
         os.makedirs(f"{folder}/crates", exist_ok=True)
         shutil.copy2(f"{TOP}/HANDLES", f"{folder}/HANDLES")
         with open(f"{TOP}/crates.txt", encoding="utf-8") as lines:
@@ -130,6 +131,8 @@ class Lane:
             if self.work.wait():
                 return False
         link(f"{self.folder}/crates/{name}/out/rlib", f"{TOP}/crates/{name}/out/rlib")
+        # a library that `rt` had kept from another checkout bears its first date
+        os.utime(f"{TOP}/crates/{name}/out/rlib/stamp", (self.copied, self.copied))
         # what the check kept speeds a later `rt check` in the checkout
         kept = f"crates/{name}/out/incremental"
         if os.path.isdir(f"{self.folder}/{kept}") and not os.path.exists(f"{TOP}/{kept}"):
