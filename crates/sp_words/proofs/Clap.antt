@@ -7,6 +7,7 @@ use Rattle.std.specs.Prelude.{slice_get, is_some}
 use Rattle.std.specs.Str.{bytes_eq}
 use Rattle.std.specs.Borrow.{Bor}
 use Rattle.std.specs.Str.Parse.{IsNumeral}
+use Rattle.std.proofs.Math.Bool.{or-true}
 use Rattle.std.proofs.lemmas.Bool.{ne_eqb}
 use Rattle.std.proofs.lemmas.Str.Parse.{digit_from_value}
 use Rattle.std.proofs.lemmas.Slice.Eq.{bytes_eq-Decides}
@@ -35,6 +36,7 @@ use Rattle.sp_words.proofs.Parses.{IsName, ends, found, passes}
 
 -- ---- the command
 
+-- the program's words are simple and free
 pub is_plain : (many : Bool) → is_simple_and_free (program (names_for many)) ≡ true
 is_plain true = refl
 is_plain false = refl
@@ -71,20 +73,17 @@ same_either_way false x = refl
 no_default : (name : Text) (rows : List Row) → with_default rows (built_rule name) ≡ rows
 no_default name rows = same_either_way (has_row name rows) rows
 
+-- no rule has a default, so the rows stay as they are
 pub finished_is : (names : List Text) (rows : List Row) → fold with_default rows (map built_rule names) ≡ rows
 finished_is [] rows = refl
 finished_is (name ∷ names) rows =
     ap (λ r. fold with_default r (map built_rule names)) (no_default name rows) ∙ finished_is names rows
 
-or_true : (b : Bool) → (b || true) ≡ true
-or_true true = refl
-or_true false = refl
-
 defaults_faultless : (names : List Text) (rows : List Row) → defaults_fault rows (map built_rule names) ≡ []
 unfolding defaults_fault
 defaults_faultless [] rows = refl
 defaults_faultless (name ∷ names) rows =
-    rw (or_true (has_row name rows), no_default name rows) (defaults_faultless names rows)
+    rw (or-true (has_row name rows), no_default name rows) (defaults_faultless names rows)
 
 none_required : (names : List Text) (rows : List Row) →
     list_any (λ a. a.required && not (is_given a.id rows)) (map built_rule names) ≡ false
@@ -202,6 +201,7 @@ text_found f name options rows_are =
 
 -- ---- numbers are plain
 
+-- the text of an option behind others of other names
 pub text_at : (before options : List (Text × Text)) (o : Text × Text) → text_of o.0 before ≡ None →
     text_of o.0 (before ++ o ∷ options) ≡ Some o.1
 text_at [] options o none = rw ((bytes_eq-Decides o.0 o.0).1 refl) refl
@@ -265,6 +265,7 @@ is_simple_program : (many : Bool) → is_simple (program (names_for many)) ≡ t
 is_simple_program true = refl
 is_simple_program false = refl
 
+-- some image passes where some element passes by its image
 pub any_map : {A : Type 0} (p : Text → Bool) (f : A → Text) (xs : List A) →
     list_any p (map f xs) ≡ list_any (λ x. p (f x)) xs
 any_map p f [] = refl
@@ -283,6 +284,7 @@ parsed_found many words a rows Rest same dashes faults matches =
     let at_all = (matches (ap is_simple same ∙ is_simple_program many)).0 in
     (all.0, all.1, all.2, at_all ∙ (ap (λ b. matches_of b words) same ∙ all.3))
 
+-- new options that the words spell are all that is found
 pub parsed_only : (many : Bool) (words : List Text) (a : App) (rows : List Row) (Rest : Type 0) →
     a ≡ program (names_for many) → (is_simple a ≡ true → (rows ≡ matches_of a words) × Rest) →
     (options : List (Text × Text)) → Spells words options → AreNewOptions (names_for many) [] options →

@@ -1,8 +1,9 @@
 -- What `clap` finds in words, and how words spell options.
-use Rattle.std.proofs.Common.{◌≡◌, ℕ, ◌+◌, ◌++◌, ◌||◌, ◌==◌, Bool, true, false, cond, List, [], ◌∷◌, map}
+use Rattle.std.proofs.Common.{◌≡◌, ℕ, ◌+◌, ◌++◌, ◌==◌, Bool, true, false, cond, List, [], ◌∷◌, map}
 use Rattle.std.proofs.Common.{Option, Some, None, refl, sym, ◌∙◌, ap, subst, arith, codes, inl, inr}
 use Rattle.std.proofs.Common.{append_assoc, append-nil, eqb-true}
 use Rattle.std.proofs.Common.{suc, fold, ap₂}
+use Rattle.std.proofs.lemmas.Bool.{or_parts}
 use Rattle.std.specs.List.{list_any, before_first, after_first, position_or_len}
 use Rattle.clap.specs.Walk.{Held, Row, Waiting, Walk, idle, option, settled, settled_rows, used, walked}
 use Rattle.clap.specs.Kinds.{Kinds, or_else}
@@ -81,10 +82,6 @@ long_word (a ∷ b ∷ c ∷ rest) name value e = go (a == 45) refl (b == 45) re
     go true one false two = let bad = rw (one, two) at e in cc
     go false one second two = let bad = rw one at e in cc
 
-or_any : (a b : Bool) → (a || b) ≡ false → (a ≡ false) × (b ≡ false)
-or_any true b e = cc
-or_any false b e = (refl, e)
-
 -- ---- what is found
 
 -- how `clap` reads a word that begins with this name
@@ -95,9 +92,11 @@ pub record IsName (name : Text) : Type 0 where
   pub joined_dashes : (text : Text) → is_dashes (codes "--" ++ (name ++ (codes "=" ++ text))) ≡ false
 
 module _ (names : List Text) where
+  -- what is held after a walk over words
   abbrev pub ends : Walk → List Text → Held
   ends walk words = (fold (walked (rules names) []) walk words).held
 
+  -- the kinds of fault where the walk settles
   abbrev pub settles : List Row → Option (Text × List Text) → Kinds
   settles rows pending = settle_fault (rules names) false (held rows pending)
 
@@ -199,7 +198,7 @@ module _ (names : List Text) where
       go (is_among names name) refl
     where
       no_dashes : (is_dashes word ≡ false) × (list_any is_dashes rest ≡ false)
-      no_dashes = or_any _ _ dashes
+      no_dashes = or_parts _ _ dashes
 
       steps : (turn names rows pending idle word ≡ [])
           × (walk_fault (built_shape names) [] (next names rows pending idle word) rest ≡ [])
@@ -221,20 +220,20 @@ module _ (names : List Text) where
 
   stray_case : (word : Text) (rest : List Text) → long_of word ≡ None → FindsAll (word ∷ rest)
   stray_case word rest long dashes rows pending done settled faults last =
-      let bad = sym (stray_turn names rows pending word (or_any _ _ dashes).0 long)
+      let bad = sym (stray_turn names rows pending word (or_parts _ _ dashes).0 long)
       ∙ (walk_step rows pending idle word rest faults).0 in cc
 
   unknown_case : (word : Text) (rest : List Text) (name : Text) (value : Option Text) →
       long_of word ≡ Some (name, value) → is_among names name ≡ false → FindsAll (word ∷ rest)
   unknown_case word rest name value long unknown dashes rows pending done settled faults last =
-      let bad = sym (unknown_turn names rows pending word name value (or_any _ _ dashes).0 long unknown)
+      let bad = sym (unknown_turn names rows pending word name value (or_parts _ _ dashes).0 long unknown)
       ∙ (walk_step rows pending idle word rest faults).0 in cc
 
   -- a name with no word behind it
   alone_last : (word name : Text) → long_of word ≡ Some (name, None) → is_among names name ≡ true → FindsAll (word ∷ [])
   alone_last word name long known dashes rows pending done settled faults last =
       let steps = walk_step rows pending idle word [] faults in
-      let step = alone_step rows pending done word name (or_any _ _ dashes).0 long known settled steps.0 in
+      let step = alone_step rows pending done word name (or_parts _ _ dashes).0 long known settled steps.0 in
       absurd (no_text names (map row done) name known
       (subst (λ (w : Walk). settle_fault (rules names) false (ends w []) ≡ []) step.1 last))
 
@@ -245,7 +244,7 @@ module _ (names : List Text) where
       go (long_of text) refl
     where
       no_dashes : (is_dashes word ≡ false) × (list_any is_dashes (text ∷ rest) ≡ false)
-      no_dashes = or_any _ _ dashes
+      no_dashes = or_parts _ _ dashes
 
       steps : (turn names rows pending idle word ≡ [])
           × (walk_fault (built_shape names) [] (next names rows pending idle word) (text ∷ rest) ≡ [])
@@ -263,13 +262,13 @@ module _ (names : List Text) where
 
       go : (cut : Option (Text × Option Text)) → long_of text ≡ cut → Finds rows pending done (word ∷ text ∷ rest)
       go (Some cut) long_text = absurd (long_after_name names (map row done) name text cut.0 cut.1 known
-          (or_any _ _ no_dashes.1).0 long_text second.0)
+          (or_parts _ _ no_dashes.1).0 long_text second.0)
       go None long_text =
-          let goes = taken_text names (map row done) name text known (or_any _ _ no_dashes.1).0 long_text second.0 in
+          let goes = taken_text names (map row done) name text known (or_parts _ _ no_dashes.1).0 long_text second.0 in
           let same : ends (at rows pending idle) (word ∷ text ∷ rest)
           ≡ ends (at (map row done) (Some (name, text ∷ [])) idle) rest =
           ap (λ (w : Walk). ends w (text ∷ rest)) first.1 ∙ ap (λ (w : Walk). ends w rest) goes in
-          let more = finds (or_any _ _ no_dashes.1).1 (map row done) (Some (name, text ∷ []))
+          let more = finds (or_parts _ _ no_dashes.1).1 (map row done) (Some (name, text ∷ []))
           (done ++ (name, text) ∷ [])
           (λ clear. last_settled done name text known (last_new done name text known clear))
           (subst (λ (w : Walk). walk_fault (built_shape names) [] w rest ≡ []) goes second.1)

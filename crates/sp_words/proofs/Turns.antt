@@ -29,6 +29,7 @@ built_rule name = record (plain_rule name) {
   range = Some (record { start_inclusive = 1; end_inclusive = 1 });
 }
 
+-- the shape of the program with rules for these names
 abbrev pub built_shape : List Text → Shape
 built_shape names = record (program names).top {
   rules = map built_rule names;
@@ -77,6 +78,7 @@ by_short (first ∷ names) x = by_short names x
 
 -- ---- the rows
 
+-- the row of an option
 abbrev pub row : Text × Text → Row
 row o = record { id = o.0; values = o.1 ∷ []; count = None; source = Some CommandLine; reading = AsWritten }
 
@@ -150,6 +152,7 @@ or_else_nil (k ∷ ks) b e = cc
 
 -- ---- one word
 
+-- what a walk holds with these rows
 abbrev pub held : List Row → Option (Text × List Text) → Held
 held rows pending = record { rows = rows; pending = pending; skip = 0 }
 
@@ -159,18 +162,23 @@ at rows pending waiting =
     record { held = held rows pending; waiting = waiting; position = 1; is_trailing = false; stopped = None }
 
 module _ (names : List Text) where
+  -- the rules for the names
   abbrev pub rules : List Rule
   rules = map built_rule names
 
+  -- the kinds of fault at a word
   abbrev pub turn : List Row → Option (Text × List Text) → Waiting → Text → Kinds
   turn rows pending waiting word = turn_fault (built_shape names) [] (at rows pending waiting) word
 
+  -- where the walk stands after a word
   abbrev pub next : List Row → Option (Text × List Text) → Waiting → Text → Walk
   next rows pending waiting word = walked rules [] (at rows pending waiting) word
 
+  -- a name among them is found as a long word
   pub long_found : (name : Text) → is_among names name ≡ true → arg_by_long rules name ≡ Some (built_rule name)
   long_found name among = by_long names name ∙ ap (λ b. cond b (Some (built_rule name)) None) among
 
+  -- and as an id
   pub id_found : (name : Text) → is_among names name ≡ true → arg_by_id rules name ≡ Some (built_rule name)
   id_found name among = by_id names name ∙ ap (λ b. cond b (Some (built_rule name)) None) among
 
@@ -183,6 +191,7 @@ module _ (names : List Text) where
   value_turn rows pending word name text dashes long among =
       rw (dashes, long, long_found name among) refl
 
+  -- `--name=text` goes on behind the text
   pub value_next : (rows : List Row) (pending : Option (Text × List Text)) (word name text : Text) →
       is_dashes word ≡ false → long_of word ≡ Some (name, Some text) → is_among names name ≡ true →
       next rows pending idle word ≡ at (used (built_rule name) (text ∷ []) (settled_rows rules pending rows)) None idle
@@ -196,6 +205,7 @@ module _ (names : List Text) where
       turn rows pending idle word ≡ or_else (settle_fault rules false (held rows pending)) []
   alone_turn rows pending word name dashes long among = rw (dashes, long, long_found name among) refl
 
+  -- `--name` goes on to wait for the text
   pub alone_next : (rows : List Row) (pending : Option (Text × List Text)) (word name : Text) →
       is_dashes word ≡ false → long_of word ≡ Some (name, None) → is_among names name ≡ true →
       next rows pending idle word ≡ at (settled_rows rules pending rows) (Some (name, [])) (option name)
@@ -227,6 +237,7 @@ module _ (names : List Text) where
       go None e = rw (e, by_index names 1) refl
       go (Some x) e = rw (e, by_short names x) refl
 
+  -- a word that is no option at all is an unknown argument
   pub stray_turn : (rows : List Row) (pending : Option (Text × List Text)) (word : Text) →
       is_dashes word ≡ false → long_of word ≡ None → turn rows pending idle word ≡ kind.UnknownArgument ∷ []
   stray_turn rows pending word dashes long = go (short_of word) refl

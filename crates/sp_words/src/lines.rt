@@ -33,7 +33,7 @@ pub fn generated(alloc: Global, start: u32) -> Result<Vec<u8>, AllocError>
     let mut out = Vec::new(alloc);
     let mut number = start;
     for line in 0..LINE_COUNT {
-        put_line(&mut out, line_after(number))?;
+        put_line(line_after(number), &mut out)?;
         number = next(next(next(number)));
     }
     Ok(out)
@@ -93,19 +93,19 @@ impl Kind {
     }
 }
 
-fn put_line(out: &mut Vec<u8>, line: Line) -> Result<(), AllocError>
+fn put_line(line: Line, out: &mut Vec<u8>) -> Result<(), AllocError>
     ensures { OnOk result (out.new.items ≡ out.old.items ++ line_text line) }
 {
     out.extend_from_slice(line.kind.word().as_bytes())?;
     out.push(b' ')?;
-    put_number(out, line.e)?;
+    put_number(line.e, out)?;
     out.push(b' ')?;
-    put_number(out, line.n)?;
+    put_number(line.n, out)?;
     out.push(b'\n')?;
     Ok(())
 }
 
-fn put_number(out: &mut Vec<u8>, value: u8) -> Result<(), AllocError>
+fn put_number(value: u8, out: &mut Vec<u8>) -> Result<(), AllocError>
     ensures { OnOk result (out.new.items ≡ out.old.items ++ decimal value) }
 {
     let mut buffer = Buffer::new();

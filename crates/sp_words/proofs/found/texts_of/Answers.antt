@@ -1,4 +1,5 @@
-use Rattle.std.proofs.Common.{◌≡◌, ◌∙◌, map, string_bytes, subst, sym, IfErr, IsErrAnd, Result, Ok, Err}
+use Rattle.std.proofs.Common.{◌≡◌, ◌∙◌, map, refl, string_bytes, subst, sym, IfErr}
+use Rattle.std.proofs.lemmas.Result.{err_from_is_err_and, IfErr-weaker}
 use Rattle.clap.specs.Words.{app_of, kind_of, rows_of, found_of}
 use Rattle.clap.specs.declared.error.Error.{Error}
 use Rattle.clap.specs.declared.error.kind.ErrorKind.TheVariants.{OutOfMemory}
@@ -6,20 +7,17 @@ use Rattle.sp_words.specs.Found.{is_dashes}
 use Rattle.sp_words.proofs.Clap.{any_map, parsed_fails, parsed_found, parsed_only, text_found}
 use Rattle.sp_words.proofs.found.texts_of.Goals as goal
 
--- what the exit of a `?` returns
-if_err : {T E : Type 0} {P : E → Type 0} (result : Result T E) → IsErrAnd result P → (Q : E → Type 0) →
-    ((e : E) → P e → Q e) → IfErr result Q
-if_err (Ok value) is Q go = tt
-if_err (Err error) is Q go = go error is
-
 pub returns-in_err-matches-clause-fails : goal.returns-in_err-matches-clause-fails
 returns-in_err-matches-clause-fails c =
-    if_err c.from_residual-in_err-matches.result c.from_residual-in_err-matches.ensures.1 _
-    (λ error is options spelled new plain.
-    subst (λ (e : Error). kind_of e ≡ OutOfMemory) (sym is)
+    let r = c.from_residual-in_err-matches.result in
+    let returned = err_from_is_err_and r c.from_residual-in_err-matches.ensures.1 in
+    IfErr-weaker r (λ error. error ≡ returned.0) _
+    (λ error same options spelled new plain.
+    subst (λ (e : Error). kind_of e ≡ OutOfMemory) (sym (same ∙ returned.2))
     (parsed_fails c.args.many (map string_bytes c.args.words.now) (app_of c.in_ok-command.field-0)
     c.in_err-matches.field-0.0
     c.in_ok-command.ensures c.in_err-matches.ensures.kinds options spelled new plain))
+    (subst (λ s. IfErr s (λ error. error ≡ returned.0)) (sym returned.1) refl)
 
 pub returns-clause-found : goal.returns-clause-found
 returns-clause-found c =
