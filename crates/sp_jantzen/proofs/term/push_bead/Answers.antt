@@ -7,8 +7,8 @@ use Rattle.sp_jantzen.proofs.term.push_bead.Goals as goal
 pub loop-to-preserved : goal.loop-to-preserved
 loop-to-preserved c =
     c.in_ok-push_pair.ensures
-    ∙ appended_more (terms_of_pair c.args.e c.args.numbers.now c.args.from) c.args.terms.now.items c.loop-to.terms.items 0
-    c.loop-to.to c.loop-to.to (omega arith) c.loop-to.invariant
+    ∙ appended_more (terms_of_pair c.args.e c.args.numbers.now c.args.from) c.args.terms.now.items
+    c.loop-to.terms.items 0 c.loop-to.to c.loop-to.to (omega arith) c.loop-to.invariant
 
 pub returns : goal.returns
 unfolding terms_of_bead

@@ -8,8 +8,8 @@ pub loop-steps-preserved : goal.loop-steps-preserved
 loop-steps-preserved c =
     c.in_ok-push_found.ensures
     ∙ ap (λ found. c.loop-steps.terms.items ++ found) c.term.ensures
-    ∙ appended_step (term c.args.e c.args.numbers.now c.args.to c.args.from) c.args.terms.now.items c.loop-steps.terms.items
-    c.loop-steps.steps (omega arith) c.loop-steps.invariant
+    ∙ appended_step (term c.args.e c.args.numbers.now c.args.to c.args.from) c.args.terms.now.items
+    c.loop-steps.terms.items c.loop-steps.steps (omega arith) c.loop-steps.invariant
 
 pub returns : goal.returns
 unfolding terms_of_pair
