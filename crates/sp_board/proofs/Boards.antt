@@ -11,7 +11,7 @@ use Rattle.sp_core.specs.declared.machine.RowState.TheVariants.{Open, Taken, Don
 use Rattle.sp_core.specs.declared.machine.WorkerState.TheVariants.{Free}
 use Rattle.sp_core.specs.Machine.{opening}
 use Rattle.sp_core.proofs.Sets.{set_same, set_other, after_set}
-use Rattle.sp_core.proofs.Runs.{replicated_at, length-replicate}
+use Rattle.sp_core.proofs.Runs.{replicated, replicated_at, length-replicate}
 use Rattle.sp_board.specs.declared.stored.Stored.{Stored}
 use Rattle.sp_board.specs.declared.stored.Stored.TheVariants.{Claim}
 use Rattle.sp_board.specs.History.{Marks, marks}
@@ -137,12 +137,6 @@ claim_ends {T} e workers next rows history history' pieces w old view longer h l
 
 -- ---- the opening
 
--- Each element of a replicated list is the one element.
-pub is_replicated : {X : Type 0} → (n j : ℕ) (x y : X) → slice_get (replicate n x) j ≡ Some y → y ≡ x
-is_replicated n j x y at =
-    let within : j < n = rw length-replicate at (slice_get_within (replicate n x) j y at) in
-    same_Some y x (sym at ∙ replicated_at n j x within)
-
 -- An opened board keeps what a board keeps.
 pub opening_kept : {T : Type 0} → (key : T → Key) (number : T → ℕ) (e : Key) (workers n room : ℕ) → 2 * n ≤ room
     → IsKept key number e workers 0 (replicate n Open) [] (replicate n None) room
@@ -153,7 +147,7 @@ opening_kept {T} key number e workers n room most = record {
     runs = refl;
     same = rw same_length refl;
     free = λ w staff idle. replicated_at workers w Free staff;
-    busy = λ k w at. let z : Taken w ≡ Open = is_replicated n k Open (Taken w) at in cc;
+    busy = λ k w at. let z : Taken w ≡ Open = replicated n k Open (Taken w) at in cc;
     within = omega arith;
     opened = λ j le lt. replicated_at n j Open (rw same_length at lt);
     only = λ j at. omega arith;
@@ -161,7 +155,7 @@ opening_kept {T} key number e workers n room most = record {
   };
   holds = record {
     count = length-replicate n None ∙ sym same_length;
-    done = λ j at. let z : Done ≡ Open = is_replicated n j Open Done at in cc;
+    done = λ j at. let z : Done ≡ Open = replicated n j Open Done at in cc;
   };
   reserved = rw same_length most;
 }

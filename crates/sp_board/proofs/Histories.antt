@@ -15,7 +15,7 @@ use Rattle.sp_board.specs.declared.stored.Stored.{Stored}
 use Rattle.sp_board.specs.declared.stored.Stored.TheVariants.{Claim, Publish, Lose}
 use Rattle.sp_board.specs.History.{Marks, marks, blank, replayed, then_replay, replay, is_taken_by}
 use Rattle.sp_board.specs.Law.{is_claim, ClaimsRow, IsEndOf, EndsRow, EachIsClaimedOnce, OthersAreAbsent}
-use Rattle.sp_board.proofs.Boards.{is_replicated}
+use Rattle.sp_core.proofs.Runs.{replicated}
 
 -- ---- one entry, replayed
 
@@ -109,7 +109,7 @@ abbrev IsPast : Marks → ℕ → Type 0
 IsPast m k = (k < m.next) × ((w : ℕ) → slice_get m.rows k ≡ Some (Taken w) → ⊥)
 
 opening_behind : (n : ℕ) → TakenAreBehind (blank n)
-opening_behind n k w at = let z : Taken w ≡ Open = is_replicated n k Open (Taken w) at in cc
+opening_behind n k w at = let z : Taken w ≡ Open = replicated n k Open (Taken w) at in cc
 
 stays_behind : (m : Marks) (e : Stored) (q : Marks) → Does m e q → TakenAreBehind m → TakenAreBehind q
 stays_behind m e q (inl d) h = subst TakenAreBehind (sym d.next) claimed

@@ -1,5 +1,6 @@
 -- The walk down the columns of a table: the rows so far, and whether a column is refused.
-use Rattle.std.proofs.Common.{◌≡◌, ℕ, ◌-◌, ◌<◌, ◌≤◌, true, false, List, [], ◌∷◌, ◌++◌, map, length, reverse, take, get_or}
+use Rattle.std.proofs.Common.{◌≡◌, ℕ, ◌-◌, ◌<◌, ◌≤◌, true, false, List, [], ◌∷◌, ◌++◌, map, length, reverse, take}
+use Rattle.std.proofs.Common.{get_or}
 use Rattle.std.proofs.Common.{Err, Option, Some, sym, ◌∙◌, ap, Bor, arith, append-nil}
 use Rattle.std.proofs.lemmas.List.{get_or_default}
 use Rattle.std.specs.Arc.{arc_value}
@@ -85,12 +86,14 @@ walked_none key s rows list filled none =
 
 -- After the last step the list has all rows, and no column is refused.
 module _ (key : Key) (s : Scope) (list : List (Bor FockVector)) (k : ℕ) (le : k ≤ 0) (h : IsWalked key s list k) where
+  -- the vectors walked are the rows of the columns
   pub walked_rows : vectors_of list ≡ rows_of key (columns key s)
   walked_rows =
       sym (append-nil (vectors_of list))
       ∙ ap (λ mus. vectors_of list ++ rows_of key mus) (sym (within_done key.e s (labels key) k le))
       ∙ h.rows
 
+  -- and none of the columns is refused
   pub walked_whole : refusal_in key (columns key s) ≡ refusal_in key []
   walked_whole = sym h.refused ∙ ap (refusal_in key) (within_done key.e s (labels key) k le)
 

@@ -11,7 +11,7 @@ use crate::CompareFault;
 use crate::products::sum_of;
 use sp_fock::Grid;
 use sp_jantzen::jantzen;
-use sp_partition::Partition;
+use sp_partition::{Partition, place_in};
 use std::alloc::{AllocError, Global};
 
 /// A term of a Jantzen sum: its coefficient, and the place of the line of its partition.
@@ -38,7 +38,7 @@ pub(crate) fn line_agrees(
     ensures { LineIs e limit (cell_at grid.now) p.now result }
 {
     let terms = terms(alloc, e, grid, p)?;
-    let line = find_line(grid.lines(), p).unwrap_or(0);
+    let line = place_in(grid.lines(), p).unwrap_or(0);
     let mut agrees = true;
     for column in 0..grid.columns().len() {
         match cell_agrees(alloc, grid, &terms, line, column, limit) {
@@ -60,20 +60,13 @@ fn terms(alloc: Global, e: u8, grid: &Grid, p: &Partition) -> Result<Vec<Term>, 
     let sum = jantzen(alloc, e, p)?;
     let mut terms = Vec::new(alloc);
     for pair in sum.pairs() {
-        let line = find_line(grid.lines(), &pair.0).unwrap_or(0);
+        let line = place_in(grid.lines(), &pair.0).unwrap_or(0);
         terms.push(Term {
             coefficient: pair.1.at_one(),
             line,
         })?;
     }
     Ok(terms)
-}
-
-// The place of a partition among the lines, if it has one.
-fn find_line(lines: &[Partition], p: &Partition) -> Option<usize>
-    ensures { result ≡ position (λ line. pointwise nat_eq line p.now) lines.now }
-{
-    lines.iter().position(|line| line == p)
 }
 
 // Whether the products over the terms sum up to the derivative of the cell.

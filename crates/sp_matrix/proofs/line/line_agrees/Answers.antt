@@ -14,8 +14,8 @@ cell_agrees-requires-clause-line c =
     let g = c.args.grid.now in
     let placed = line_place c.args.e g c.args.p.now c.requires.all c.requires.line in
     subst (λ k. k < length g.lines)
-    (sym (line_found g c.args.p.now c.lines.result.now c.find_line.result c.unwrap_or-line.result placed
-    c.lines.ensures.value c.find_line.ensures c.unwrap_or-line.ensures)) placed
+    (sym (line_found g c.args.p.now c.lines.result.now c.place_in.result c.unwrap_or-line.result placed
+    c.lines.ensures.value c.place_in.ensures c.unwrap_or-line.ensures)) placed
 
 pub cell_agrees-requires-clause-terms : goal.cell_agrees-requires-clause-terms
 cell_agrees-requires-clause-terms c =
@@ -35,8 +35,8 @@ returns-in-Err c =
     (column_is c.args.e c.args.limit g p c.loop-column.column c.unwrap_or-line.result c.deref.result.now
     (Err c.in-Err.fault) c.requires.all c.lines.ensures.grid c.requires.line lt
     (c.deref.ensures.value ∙ c.in_ok-terms.ensures)
-    (line_found g p c.lines.result.now c.find_line.result c.unwrap_or-line.result placed c.lines.ensures.value
-    c.find_line.ensures c.unwrap_or-line.ensures) c.in-Err.ensures)
+    (line_found g p c.lines.result.now c.place_in.result c.unwrap_or-line.result placed c.lines.ensures.value
+    c.place_in.ensures c.unwrap_or-line.ensures) c.in-Err.ensures)
 
 pub loop-column-preserved : goal.loop-column-preserved
 loop-column-preserved c =
@@ -50,8 +50,8 @@ loop-column-preserved c =
     let here : ColumnIs c.args.e c.args.limit d p (get_or g.columns j []) (Ok c.in-Ok.cell) =
     column_is c.args.e c.args.limit g p j c.unwrap_or-line.result c.deref.result.now (Ok c.in-Ok.cell) c.requires.all
     c.lines.ensures.grid c.requires.line lt (c.deref.ensures.value ∙ c.in_ok-terms.ensures)
-    (line_found g p c.lines.result.now c.find_line.result c.unwrap_or-line.result placed c.lines.ensures.value
-    c.find_line.ensures c.unwrap_or-line.ensures) c.in-Ok.ensures in
+    (line_found g p c.lines.result.now c.place_in.result c.unwrap_or-line.result placed c.lines.ensures.value
+    c.place_in.ensures c.unwrap_or-line.ensures) c.in-Ok.ensures in
     record {
       agrees =
           ap₂ (λ a b. a && b) c.loop-column.invariant.agrees here.1

@@ -26,8 +26,8 @@ loop-pair-preserved c =
     (subst (AllByRecursion (λ t. place g.lines t.0 < length g.lines)) (sym c.loop-pair.invariant.same)
     (entries_placed c.args.e g c.args.p.now c.requires.all c.requires.line)) c.loop-pair-test.true) in
     let fits : SFits w128 c.at_one.result = search rules in
-    let line = line_found g pair.0 c.lines.result.now c.find_line.result c.unwrap_or-line.result placed
-    c.lines.ensures.value c.find_line.ensures c.unwrap_or-line.ensures in
+    let line = line_found g pair.0 c.lines.result.now c.place_in.result c.unwrap_or-line.result placed
+    c.lines.ensures.value c.place_in.ensures c.unwrap_or-line.ensures in
     record {
       same = c.loop-pair.invariant.same;
       terms =

@@ -8,6 +8,7 @@ use Rattle.sp_core.specs.declared.piece.Key.{Key}
 use Rattle.sp_fock.specs.Cells.{AreSparse, spread_rows}
 use Rattle.sp_fock_law.specs.Grid.{GridValue, IsGrid}
 use Rattle.sp_llt.specs.Place.{labels}
+use Rattle.sp_module_defs.proofs.Places.{gridded}
 use Rattle.sp_module_defs.specs.Cells.{cell_at, IsSquareUnitriangular}
 use Rattle.sp_matrix.specs.declared.scope.Scope.{Scope}
 use Rattle.sp_matrix.specs.declared.scope.Form.{Form}
@@ -20,9 +21,6 @@ use Rattle.sp_matrix.proofs.Passed.{lines_descend}
 use Rattle.sp_matrix.proofs.Tables.{table_is_grid, lines_heading, cells_are}
 use Rattle.sp_matrix.proofs.Triangular.{triangular, square}
 use Rattle.sp_matrix.proofs.matrix.grid.Goals as goal
-
-abbrev gridded : ℕ → List (List ℕ) → List (List ℕ) → List (List Laurent) → GridValue
-gridded n columns lines cells = record { degree = n; columns = columns; lines = lines; cells = cells }
 
 -- the parts of a table make it
 made : (e n : ℕ) (s : Scope) (form : Form) (columns lines : List (List ℕ)) (cells : List (List Laurent)) →

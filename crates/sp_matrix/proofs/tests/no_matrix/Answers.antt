@@ -3,6 +3,7 @@ use Rattle.sp_defs.specs.Partition.{partitions, partitions_within, regulars}
 use Rattle.sp_defs.specs.Laurent.{Laurent}
 use Rattle.sp_fock.specs.Cells.{rows_of}
 use Rattle.sp_fock_law.specs.Grid.{GridValue}
+use Rattle.sp_module_defs.proofs.Places.{gridded}
 use Rattle.sp_matrix.specs.Agreements.{HasAll}
 use Rattle.sp_matrix.proofs.tests.no_matrix.Goals as goal
 
@@ -12,10 +13,7 @@ columns = (3 ∷ []) ∷ (2 ∷ 1 ∷ []) ∷ []
 abbrev lines : List (List ℕ)
 lines = (3 ∷ []) ∷ (2 ∷ 1 ∷ []) ∷ (1 ∷ 1 ∷ 1 ∷ []) ∷ []
 
-abbrev gridded : List (List ℕ) → List (List ℕ) → List (List Laurent) → GridValue
-gridded columns lines cells = record { degree = 3; columns = columns; lines = lines; cells = cells }
-
-has_all : (cells : List (List Laurent)) → HasAll 2 (gridded columns lines cells)
+has_all : (cells : List (List Laurent)) → HasAll 2 (gridded 3 columns lines cells)
 unfolding partitions partitions_within regulars
 has_all cells = record { lines = refl; columns = refl }
 
@@ -24,5 +22,5 @@ returns c =
     let cells = rows_of c.in_ok-cells.cells.items in
     let columns_are : c.in_ok-columns.columns.items ≡ columns = search rules in
     let lines_are : c.in_ok-lines.lines.items ≡ lines = search rules in
-    subst (HasAll 2) (sym (c.in_ok-build.ensures ∙ ap₂ (λ a b. gridded a b cells) columns_are lines_are))
+    subst (HasAll 2) (sym (c.in_ok-build.ensures ∙ ap₂ (λ a b. gridded 3 a b cells) columns_are lines_are))
     (has_all cells)

@@ -4,6 +4,7 @@ use Rattle.sp_paint.proofs.plain.put_cells.Given as goal
 
 abbrev pub invariant-loop-cell : goal.invariant-loop-cell
 invariant-loop-cell l = record {
-  text : l.out.items ++ flat_map plain_cell_text l.cell-iterator ≡ l.fn.out.items ++ flat_map plain_cell_text l.fn.cells;
+  text : l.out.items ++ flat_map plain_cell_text l.cell-iterator
+      ≡ l.fn.out.items ++ flat_map plain_cell_text l.fn.cells;
   kept : take (length l.fn.out.items) l.out.items ≡ l.fn.out.items;
 }
