@@ -1,7 +1,7 @@
 -- A right column is the row: with bar-invariant shares that give the ladder vector back, its vector is the regular row,
 -- and its shares are the shares that aren't 0.
 use Rattle.std.proofs.Common.{◌≡◌, ◌≢◌, ℕ, true, List, [], map, filter, reverse, sym, ◌∙◌, ap}
-use Rattle.std.proofs.Common.{subst, arith, ℤ, pos, ◌≤ℤ◌, Less, Equal}
+use Rattle.std.proofs.Common.{arith, ℤ, pos, ◌≤ℤ◌, Less, Equal}
 use Rattle.std.specs.List.{AllByRecursion}
 use Rattle.std.specs.Ordering.{is_lt}
 use Rattle.std.proofs.lemmas.Int.{ints}
@@ -19,9 +19,8 @@ use Rattle.sp_algebra.proofs.Coefficients.{same_laurent}
 use Rattle.sp_algebra.proofs.Laws.{coefficient-plus, bar_invariant-nought, IsLaurent-bar_invariant}
 use Rattle.sp_fock_law.proofs.Vectors.{entries-vector_of, vector_of-all}
 use Rattle.sp_triangle.proofs.Triangle.{same_factors}
-use Rattle.sp_triangle.proofs.Shares.{rows, rows_triangle, keys-shares, invariant-shares, from_keys}
+use Rattle.sp_triangle.proofs.Shares.{rows, rows_triangle, keys-shares, invariant-shares}
 use Rattle.sp_row_law.proofs.Setting.{Good, IsBefore, good_earlier, earlier_before, earlier_ascends, triangle}
-use Rattle.sp_row_law.proofs.Setting.{rows_same}
 use Rattle.sp_row_law.proofs.RowsLaw.{rows_law, keyed_same}
 use Rattle.sp_outcome_law.specs.Asking.{given}
 use Rattle.sp_outcome_law.specs.Asking.{is_nonzero as is_nonzero_share}

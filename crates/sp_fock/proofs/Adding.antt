@@ -1,5 +1,5 @@
 -- What adding asks of each partition follows from what is known of both vectors, and the sum is a vector again.
-use Rattle.std.proofs.Common.{◌≡◌, ℕ, List, ◌+◌, ◌*◌, ◌≤◌, ◌↔◌, [], ◌∷◌, refl, sym, ◌∙◌, subst}
+use Rattle.std.proofs.Common.{◌≡◌, ℕ, List, ◌+◌, ◌*◌, ◌≤◌, ◌↔◌, [], refl, sym, ◌∙◌, subst}
 use Rattle.std.specs.List.{AllByRecursion}
 use Rattle.sp_algebra.proofs.Laws.{IsLaurent-plus, plus_nought, times_nought}
 use Rattle.sp_algebra.proofs.Sizes.{product_within-right_nil}

@@ -31,8 +31,6 @@ use Rattle.std.proofs.Common.{
   inr,
 }
 use Rattle.std.specs.List.{AllByRecursion}
-use Rattle.std.specs.Ordering.{ordering_reverse}
-use Rattle.std.proofs.lemmas.Cmp.{nat_list_cmp_total}
 use Rattle.sp_defs.specs.Partition.{compare, partitions, Ascending, IsPartitionOf, IsEarlier}
 use Rattle.sp_defs.specs.Laurent.{Laurent, IsLaurent, collect}
 use Rattle.sp_defs.specs.Power.{Vector, Entries, vector_of, entries, IsVector}

@@ -1,17 +1,15 @@
 -- From one partial ladder vector to the next, as the code holds them.
 use Rattle.std.proofs.Common.{◌≡◌, ℕ, ◌+◌, ◌*◌, ◌<◌, ◌≤◌, List, [], ◌∷◌, length, get_or, refl, sym, ◌∙◌, ap, ap₂}
-use Rattle.std.proofs.Common.{subst, arith, take, unsigned_abs, mul-le-mul_left}
+use Rattle.std.proofs.Common.{subst, arith, mul-le-mul_left}
 use Rattle.std.proofs.lemmas.List.Sums.{sum_by-take-le, sum_by-cons}
 use Rattle.std.proofs.lemmas.List.{take_all}
 use Rattle.sp_defs.specs.Partition.{degree, IsPartition, IsPartitionOf}
-use Rattle.sp_defs.specs.Laurent.{Laurent, one, plus, collect, add_term, sum_over}
-use Rattle.sp_defs.specs.Within.{PowersWithin}
-use Rattle.sp_defs.specs.Power.{Vector, Entries, vector_of, unit, divided_power, induction_weight, FockVector}
+use Rattle.sp_defs.specs.Laurent.{one, plus, collect, add_term, sum_over}
+use Rattle.sp_defs.specs.Power.{Vector, vector_of, unit, divided_power, induction_weight, FockVector}
 use Rattle.sp_defs.specs.Power.{fock_vector}
 use Rattle.sp_defs.specs.Ladder.{Step, steps, partial_ladder_vector, ladder_vector, ladder_weight, chain_sum}
 use Rattle.sp_defs.specs.Ladder.{chains_to, chain_exponent}
 use Rattle.sp_defs.specs.Statements.{IsLabel}
-use Rattle.sp_lists.proofs.Places.{all_weaken}
 use Rattle.sp_fock_law.proofs.Vectors.{vector_of-entries, entries-alike}
 use Rattle.sp_fock_law.proofs.Single.{entries-unit}
 use Rattle.sp_power.specs.Arrivals.{AllWithin}

@@ -16,7 +16,7 @@ use Rattle.sp_ladder.specs.Steps.{step_on}
 use Rattle.sp_ladder.proofs.Obeys.{obeys}
 use Rattle.sp_ladder.proofs.Partial.{no_step, nth_step, After, after_none, after_next, past_next, room_next, after_all}
 use Rattle.sp_ladder.proofs.Partial.{fits_all}
-use Rattle.sp_ladder.proofs.Partial.{degree_is, degree_small}
+use Rattle.sp_ladder.proofs.Partial.{degree_small}
 use Rattle.sp_power.proofs.Units.{all_more}
 
 -- Before step t of the list that the code made, with the vector so far.

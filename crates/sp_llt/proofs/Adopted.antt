@@ -1,13 +1,13 @@
 -- A listed column that is right and not too large is the row, with its shares; and how the tests tell that it is right.
-use Rattle.std.proofs.Common.{◌≡◌, ◌≢◌, ℕ, ◌<◌, ◌≤◌, Bool, true, false, not, ◌&&◌, ◌||◌, cond, ◌+◌, ◌*◌, List, [], ◌∷◌}
-use Rattle.std.proofs.Common.{◌++◌, map, reverse}
-use Rattle.std.proofs.Common.{refl, sym, ◌∙◌, ap, ap₂, subst, arith, None, Some, sum_by}
+use Rattle.std.proofs.Common.{◌≡◌, ◌≢◌, ℕ, ◌<◌, ◌≤◌, Bool, true, false, not, ◌&&◌, ◌||◌, ◌+◌, ◌*◌, List, [], ◌∷◌}
+use Rattle.std.proofs.Common.{map, reverse}
+use Rattle.std.proofs.Common.{refl, sym, ◌∙◌, ap, ap₂, subst, arith, None, sum_by}
 use Rattle.std.proofs.Common.{Ordering, Less, Equal, Greater, le-ltb}
 use Rattle.std.specs.List.{AllByRecursion, find, list_any}
 use Rattle.std.specs.Option.{option_map}
 use Rattle.std.specs.Ordering.{is_eq}
 use Rattle.std.proofs.lemmas.Int.{ints}
-use Rattle.std.proofs.lemmas.List.{reverse-reverse, reverse-append, map-append}
+use Rattle.std.proofs.lemmas.List.{reverse-reverse}
 use Rattle.std.proofs.lemmas.List.Sorted.{sum_by-IsPermutation, IsPermutation-reverse}
 use Rattle.sp_defs.specs.Partition.{degree, partitions, compare, IsPartitionOf}
 use Rattle.sp_defs.specs.Laurent.{Laurent, IsLaurent, one, plus, negate, coefficient, size, IsBarInvariant, IsPositive}

@@ -1,6 +1,6 @@
 -- A listed column, share by share: what is left of the ladder vector, and the weight so far.
-use Rattle.std.proofs.Common.{◌≡◌, ◌≢◌, ℕ, zero, suc, ◌+◌, ◌*◌, ◌<◌, ◌≤◌, List, [], ◌∷◌, ◌++◌, map, reverse, length}
-use Rattle.std.proofs.Common.{get_or, take, drop, refl, sym, ◌∙◌, ap, ap₂, subst, arith, sum_by, ℤ, ◌+ℤ◌, unsigned_abs}
+use Rattle.std.proofs.Common.{◌≡◌, ◌≢◌, ℕ, ◌+◌, ◌*◌, ◌<◌, ◌≤◌, List, [], ◌∷◌, ◌++◌, map, reverse, length}
+use Rattle.std.proofs.Common.{get_or, take, drop, refl, sym, ◌∙◌, ap, ap₂, subst, arith, sum_by, ℤ}
 use Rattle.std.proofs.Common.{◌⊎◌, inl, inr}
 use Rattle.std.specs.List.{AllByRecursion}
 use Rattle.std.proofs.lemmas.Int.{ints}
@@ -13,7 +13,7 @@ use Rattle.sp_defs.specs.Ladder.{ladder_vector, ladder_weight, steps}
 use Rattle.sp_defs.specs.Row.{Factors, combination, regular_row}
 use Rattle.sp_defs.specs.Within.{PowersWithin, ProductWithin}
 use Rattle.sp_lists.proofs.Elements.{all_append, all_map, all_reverse, le_or_lt}
-use Rattle.sp_lists.proofs.Places.{all_weaken, all_at}
+use Rattle.sp_lists.proofs.Places.{all_weaken}
 use Rattle.sp_lists.proofs.Greatest.{greatest_within, within_greatest, map_within, within_map}
 use Rattle.sp_lists.proofs.Occurrence.{at_occurs}
 use Rattle.sp_shapes.proofs.Listing.{all_partitions, each_partition, regulars_ascend}

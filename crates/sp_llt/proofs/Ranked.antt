@@ -1,13 +1,11 @@
 -- A search by halves for the entry of a rank.
 use Rattle.std.proofs.Common.{◌≡◌, ◌≢◌, ℕ, zero, suc, ◌<◌, ◌≤◌, List, [], ◌∷◌, map, length, get_or, sym, ◌∙◌, ap, ap₂}
 use Rattle.std.proofs.Common.{subst}
-use Rattle.std.proofs.Common.{arith, Ordering, Less, Equal, Greater, Ok, Err, nat_cmp, inl, inr}
+use Rattle.std.proofs.Common.{arith, Less, Equal, Greater, Ok, Err, nat_cmp, inl, inr}
 use Rattle.std.specs.List.{AllByRecursion}
 use Rattle.std.specs.List.Sorted.{IsBinarySearchResult, IsNonDecreasingBy}
-use Rattle.std.specs.Ordering.{MatchOrdering, ordering_index}
-use Rattle.std.specs.Cmp.{ranks}
+use Rattle.std.specs.Ordering.{ordering_index}
 use Rattle.std.proofs.lemmas.Bool.{cases_lt}
-use Rattle.std.proofs.lemmas.Bool.Decides.{nat_tests}
 use Rattle.sp_lists.proofs.Comparing.{ranked, comparison_rises}
 use Rattle.sp_lists.proofs.Elements.{map_all}
 use Rattle.sp_lists.proofs.Places.{all_at, all_weaken}

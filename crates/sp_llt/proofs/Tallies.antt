@@ -1,7 +1,7 @@
 -- What a builder keeps: the tally, and the shares so far, at the start and from rank to rank.
-use Rattle.std.proofs.Common.{◌≡◌, ℕ, ◌+◌, ◌*◌, ◌<◌, ◌≤◌, Bool, true, false, ◌||◌, List}
+use Rattle.std.proofs.Common.{◌≡◌, ℕ, ◌+◌, ◌*◌, ◌<◌, ◌≤◌, true, false, ◌||◌, List}
 use Rattle.std.proofs.Common.{[], ◌∷◌, ◌++◌, map, length}
-use Rattle.std.proofs.Common.{reverse, refl, sym, ◌∙◌, ap, ap₂, arith, Some, nat_lt, lt-ltb, le-ltb, ℤ}
+use Rattle.std.proofs.Common.{reverse, sym, ◌∙◌, ap, ap₂, arith, Some, nat_lt, lt-ltb, le-ltb, ℤ}
 use Rattle.std.proofs.Common.{inl, inr, subst}
 use Rattle.std.proofs.lemmas.Int.{ints}
 use Rattle.std.proofs.Math.Bool.{or-true}

@@ -1,5 +1,5 @@
 // How the entry of one rank is made from earlier entries.
-ghost use Rattle.std.specs.Prelude.{◌≡◌, ◌≢◌, ◌<◌, ℕ, IfOk, IfSome, None as Nothing, Some as Just, true, false, length};
+ghost use Rattle.std.specs.Prelude.{◌≡◌, ◌≢◌, ◌<◌, IfOk, IfSome, None as Nothing, Some as Just, true, false, length};
 ghost use Rattle.sp_defs.specs.Row.{outcome, TooLarge as IsTooLarge};
 ghost use Rattle.sp_defs.specs.Statements.{SameContent};
 ghost use Rattle.sp_outcome_law.specs.Asking.{asked, next_rank, is_past, is_too_large};

@@ -1,7 +1,7 @@
 -- The lists of partitions ascend strictly, place by place.
-use Rattle.std.proofs.Common.{◌≡◌, ℕ, zero, suc, ◌<◌, List, [], ◌∷◌, length, get_or, Less, sym, ◌∙◌, arith}
+use Rattle.std.proofs.Common.{◌≡◌, ℕ, ◌<◌, List, [], length, get_or, Less, sym, ◌∙◌, arith}
 use Rattle.std.specs.List.{AllByRecursion}
-use Rattle.sp_defs.specs.Partition.{IsPartitionOf, IsRegularOf, IsEarlier, Ascending, order, partitions, regulars}
+use Rattle.sp_defs.specs.Partition.{IsPartitionOf, IsRegularOf, Ascending, order, partitions, regulars}
 use Rattle.sp_lists.proofs.Places.{all_at}
 use Rattle.sp_lists.proofs.Places.{all_weaken}
 use Rattle.sp_shapes.proofs.Listing.{all_partitions, partitions_ascend, all_regulars, regulars_ascend}

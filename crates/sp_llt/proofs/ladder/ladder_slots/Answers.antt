@@ -1,4 +1,4 @@
-use Rattle.std.proofs.Common.{◌≡◌, ℕ, ◌<◌, ◌≤◌, List, sym, ◌∙◌, ap, ap₂, subst, Err}
+use Rattle.std.proofs.Common.{◌≡◌, ◌<◌, ◌≤◌, sym, ◌∙◌, ap, ap₂, subst, Err}
 use Rattle.sp_defs.specs.Partition.{is_regular, degree, partitions}
 use Rattle.sp_defs.specs.Power.{FockVector}
 use Rattle.sp_defs.specs.Ladder.{ladder_weight}

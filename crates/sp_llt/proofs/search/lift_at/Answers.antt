@@ -1,4 +1,4 @@
-use Rattle.std.proofs.Common.{◌≡◌, ◌≢◌, ℕ, ◌<◌, ◌≤◌, ◌↔◌, Bool, true, false, IsTrue, [], sym, ◌∙◌, subst, arith}
+use Rattle.std.proofs.Common.{◌≡◌, ◌≢◌, ◌≤◌, ◌↔◌, Bool, true, false, IsTrue, [], sym, ◌∙◌, subst}
 use Rattle.sp_defs.specs.Partition.{partitions}
 use Rattle.sp_defs.specs.Laurent.{Laurent, lift, size, IsPositive}
 use Rattle.sp_defs.specs.Power.{vector_of}
