@@ -7,3 +7,8 @@ pub mod Pieces
 pub mod Written
 pub mod Polynomials
 pub mod Failing
+pub mod Factors
+pub mod RowColumns
+pub mod Visible
+pub mod Answered
+pub mod WrittenLines

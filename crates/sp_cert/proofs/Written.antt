@@ -2,16 +2,16 @@
 use Rattle.std.proofs.Common.{◌≡◌, ℕ, zero, suc, ◌<◌, cond, ◌&&◌, nat_eq, List, [], ◌∷◌, ◌++◌, map}
 use Rattle.std.proofs.Common.{reverse, length, get_or, take, refl, sym, ◌∙◌, ap, subst, arith, Option, None, Some}
 use Rattle.std.proofs.Common.{append_assoc, Less}
-use Rattle.std.specs.List.{AllByRecursion, list_all}
+use Rattle.std.specs.List.{AllByRecursion, list_all, range_with_len}
 use Rattle.std.specs.Cmp.Lexicographic.{pointwise}
 use Rattle.std.specs.Arc.{arc_value}
 use Rattle.std.specs.declared.sync.Arc.{Arc}
 use Rattle.std.specs.declared.alloc.Global.{Global}
 use Rattle.sp_defs.specs.Partition.{compare, Ascending}
 use Rattle.sp_defs.specs.Power.{FockVector, fock_vector, entries}
-use Rattle.sp_defs.specs.Row.{before, regular_row, Outcome, Row, TooLarge, Stray}
-use Rattle.sp_lists.proofs.Elements.{reverse_all, map_all}
-use Rattle.sp_lists.proofs.Places.{all_at}
+use Rattle.sp_defs.specs.Row.{before, regular_row, Outcome, outcome, Row, TooLarge, Stray}
+use Rattle.sp_lists.proofs.Elements.{reverse_all, map_all, range_at}
+use Rattle.sp_lists.proofs.Places.{all_at, all_places}
 use Rattle.sp_shapes.proofs.Before.{before_keep, before_self}
 use Rattle.sp_outcome_law.specs.Asking.{is_too_large}
 use Rattle.sp_core.specs.declared.piece.Key.{Key}
@@ -21,6 +21,7 @@ use Rattle.sp_llt.specs.Shares.{given_shares, told_shares}
 use Rattle.sp_llt.specs.Refusals.{outcome_at, refusal, refused_as, or_else, first_refusal}
 use Rattle.sp_llt.specs.Filled.{IsFilled}
 use Rattle.sp_llt.proofs.Firsts.{first_count, first_entry}
+use Rattle.sp_cert.specs.Written.{HasAllRows}
 
 -- ---- contents
 
@@ -75,6 +76,21 @@ row_in key rows rank a filled none lt is = record {
       (none_refused (reverse (map arc_value rows)) none)))
       (omega (arith, lt, first_count key (length (labels key)) rows filled)));
 }
+
+-- where no entry is refused, each e-regular partition has a row within the limit
+pub all_rows : (key : Key) (rows : List (Arc Place Global)) → IsFilled key rows →
+    first_refusal (reverse (map arc_value rows)) ≡ None → HasAllRows key
+all_rows key rows filled none =
+    all_places (λ mu. outcome key.e key.limit mu ≡ Row) (labels key) []
+    (λ k lt. range_at (λ j. outcome_at (place key j) ≡ Row) 0 (length (labels key)) at_ranks k (omega arith)
+    (omega (arith, lt)))
+  where
+    at_ranks : AllByRecursion (λ j. outcome_at (place key j) ≡ Row) (range_with_len 0 (length (labels key)))
+    at_ranks =
+        map_all (λ p. outcome_at p ≡ Row) (place key) (range_with_len 0 (length (labels key)))
+        (subst (AllByRecursion (λ p. outcome_at p ≡ Row)) filled
+        (reverse_all (λ p. outcome_at p ≡ Row) (map arc_value rows)
+        (none_refused (reverse (map arc_value rows)) none)))
 
 -- ---- what an entry with a row tells
 

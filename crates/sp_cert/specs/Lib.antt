@@ -6,3 +6,4 @@ pub mod Texts
 pub mod Polynomials
 pub mod Grammar
 pub mod Failing
+pub mod Written

@@ -11,6 +11,7 @@ ghost use Rattle.sp_llt.specs.declared.refused.FirstRefused.{FirstRefused as Ref
 ghost use Rattle.sp_defs.specs.Row.{Row as IsRow};
 ghost use Rattle.sp_cert.specs.Order.{same_content, leaders};
 ghost use Rattle.sp_cert.specs.Texts.{certificate_text, column_text, block_text};
+ghost use Rattle.sp_cert.specs.Written.{WrittenFacts};
 
 use crate::lines::{put_block_line, put_column_line, put_number_line, put_term_line};
 use sp_llt::{Ctx, Entry, RowsFault, first_refused};
@@ -21,6 +22,10 @@ use std::sync::Arc;
 
 /// Appends the certificate of all rows, in version 2: for each column the shares that aren't 0 and all entries of the
 /// row. It is refused where a row is, with the greatest such column, and then nothing is appended.
+///
+/// By the law of written certificates (`written_law`) what is appended has lines that the grammar allows one after the
+/// other, and the last of them ends the certificate of all rows, which `check` accepts under the limit of the context,
+/// unless memory runs out.
 pub fn write(
     alloc: Global,
     ctx: &Ctx,
@@ -30,6 +35,8 @@ pub fn write(
     requires { IsFilled ctx.now rows.now }
     ensures text { OnOk result (out.new.items ≡ out.old.items ++ certificate_text ctx.now.e ctx.now.degree) }
     ensures whole { OnOk result (first_refusal (reverse (map arc_value rows.now)) ≡ Nothing) }
+    // the text is read as the certificate of all rows, and each column of that is accepted
+    ensures written { OnOk result (WrittenFacts ctx.now) }
     ensures refused { (refused : Refusal) → IsErrOf result (RowsFault.Refused refused) →
         first_refusal (reverse (map arc_value rows.now)) ≡ Just refused }
     ensures kept { OnErr result (out.new.items ≡ out.old.items) }
@@ -50,7 +57,8 @@ pub fn write(
 fn certificate(alloc: Global, ctx: &Ctx, rows: &[Arc<Entry>]) -> Result<Vec<u8>, AllocError>
     requires filled { IsFilled ctx.now rows.now }
     requires whole { first_refusal (reverse (map arc_value rows.now)) ≡ Nothing }
-    ensures { IfOk result (λ text. text.items ≡ certificate_text ctx.now.e ctx.now.degree) }
+    ensures text { IfOk result (λ text. text.items ≡ certificate_text ctx.now.e ctx.now.degree) }
+    ensures written { OnOk result (WrittenFacts ctx.now) }
 {
     let key = ctx.key();
     let mut text = Vec::new(alloc);
