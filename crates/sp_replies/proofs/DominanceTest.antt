@@ -16,11 +16,13 @@ stays_above upper lower test (suc k) within =
     (all_tests (λ j. nat_le (sum (take j lower)) (sum (take j upper))) (from_one_to (length lower)) test) (suc k)
     (omega arith) (omega arith))
 
+-- what passes the test dominates, where the degrees agree
 pub dominance_meant : (upper lower : List ℕ) → sum upper ≡ sum lower → does_dominate upper lower ≡ true →
     Dominates upper lower
 dominance_meant upper lower one_sum test =
     above_all (min (length upper) (length lower)) upper lower one_sum refl (stays_above upper lower test)
 
+-- what dominates passes the test
 pub dominance_tested : (upper lower : List ℕ) → Dominates upper lower → does_dominate upper lower ≡ true
 dominance_tested upper lower d =
     tests_all (λ k. nat_le (sum (take k lower)) (sum (take k upper))) (from_one_to (length lower))

@@ -1,16 +1,15 @@
 -- The partition with a core and a quotient is found, where there is one.
-use Rattle.std.proofs.Common.{◌≡◌, ℕ, ◌+◌, ◌*◌, ◌≤◌, Bool, true, false, cond, nat_eq, List, [], ◌∷◌, refl, sym, ◌∙◌}
-use Rattle.std.proofs.Common.{ap, ap₂}
-use Rattle.std.proofs.Common.{arith, ◌⊎◌, inl, inr, subst}
+use Rattle.std.proofs.Common.{◌≡◌, ℕ, ◌+◌, ◌*◌, ◌≤◌, Bool, true, false, nat_eq, List, [], ◌∷◌, refl, ◌∙◌}
+use Rattle.std.proofs.Common.{ap₂}
+use Rattle.std.proofs.Common.{arith, subst}
 use Rattle.std.proofs.Common.{◌<◌, nat_lt, length, ◌↔◌, eq-eqb, eqb-true, lt-ltb, ltb-true, ltb-false}
 use Rattle.std.specs.Prelude.{Some, Result, Ok, Err, find, sum_by}
-use Rattle.std.specs.List.{AllByRecursion}
 use Rattle.std.specs.Cmp.Lexicographic.{pointwise, bytes_decides}
 use Rattle.sp_defs.specs.Partition.{IsPartition, IsPartitionOf, degree, partitions}
 use Rattle.sp_defs.specs.Abacus.{core, quotient}
 use Rattle.sp_abacus_law.proofs.Weight.{degree-core}
 use Rattle.sp_lists.proofs.Elements.{and_split, and_join}
-use Rattle.sp_lists.proofs.Occurrence.{Occurs}
+use Rattle.sp_lists.proofs.Finding.{find_only}
 use Rattle.sp_shapes.proofs.Listing.{all_partitions, each_partition}
 use Rattle.sp_abacus.specs.declared.combining.CombineFault.{CombineFault}
 use Rattle.sp_abacus.specs.declared.combining.CombineFault.TheVariants.{NotCore, WrongCount, PastDegree}
@@ -19,20 +18,6 @@ use Rattle.sp_replies.specs.Abacuses.{is_partition, is_made_of, size_of, combine
 use Rattle.sp_replies.specs.Orders.{partition_line}
 use Rattle.sp_replies.specs.Refusals.{by_combining, refusal_line}
 use Rattle.sp_replies.specs.declared.refusals.Refusal.TheVariants as refusal
-
--- The first that passes is x, where x occurs and no other passes.
-find_only : {X : Type 0} (P : X → Type 0) (t : X → Bool) (x : X) (xs : List X) → AllByRecursion P xs → Occurs x xs →
-    t x ≡ true → ((y : X) → P y → t y ≡ true → y ≡ x) → find t xs ≡ Some x
-find_only P t x [] all at passes only = absurd at
-find_only {X = X} P t x (y ∷ xs) (here, all) at passes only = by_test (t y) refl at (find_only P t x xs all)
-  where
-    by_test : (b : Bool) → t y ≡ b → (x ≡ y) ⊎ Occurs x xs →
-        (Occurs x xs → t x ≡ true → ((z : X) → P z → t z ≡ true → z ≡ x) → find t xs ≡ Some x) →
-        find t (y ∷ xs) ≡ Some x
-    by_test true is occurs later = ap (λ b. cond b (Some y) (find t xs)) is ∙ ap Some (only y here is)
-    by_test false is (inl same) later = absurd (let no : false ≡ true = sym is ∙ ap t (sym same) ∙ passes in cc)
-    by_test false is (inr occurs) later =
-        ap (λ b. cond b (Some y) (find t xs)) is ∙ later occurs passes only
 
 -- ---- lists of partitions that are equal by the test
 
@@ -49,6 +34,7 @@ lists_same [] = refl
 lists_same (p ∷ ps) = and_join (is_partition p p) (pointwise is_partition ps ps) ((bytes_decides p p).1 refl)
     (lists_same ps)
 
+-- a partition with this core and this quotient passes the test
 pub made : (e : ℕ) (kappa : List ℕ) (quotients : List (List ℕ)) (p : List ℕ) → core e p ≡ kappa →
     quotient e p ≡ quotients → is_made_of e kappa quotients p ≡ true
 made e kappa quotients p core_is quotient_is =
@@ -56,6 +42,7 @@ made e kappa quotients p core_is quotient_is =
     ((bytes_decides (core e p) kappa).1 core_is)
     (subst (λ qs. pointwise is_partition (quotient e p) qs ≡ true) quotient_is (lists_same (quotient e p)))
 
+-- what passes it has them
 pub parts_of : (e : ℕ) (kappa : List ℕ) (quotients : List (List ℕ)) (p : List ℕ) →
     is_made_of e kappa quotients p ≡ true → (core e p ≡ kappa) × (quotient e p ≡ quotients)
 parts_of e kappa quotients p h =

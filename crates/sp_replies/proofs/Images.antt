@@ -2,6 +2,7 @@
 use Rattle.std.proofs.Common.{◌≡◌, List, ℕ, ◌↔◌, refl}
 use Rattle.std.specs.Prelude.{Option, Some, None, Result, Ok, Err}
 
+-- there is no image where the answer is a fault
 pub refused : {E : Type 0} (r : Result (List ℕ) E) (fault : E) (image : Option (List ℕ)) → r ≡ Err fault →
     ((p : List ℕ) → (r ≡ Ok p) ↔ (image ≡ Some p)) → image ≡ None
 refused r fault None is images = refl

@@ -14,6 +14,7 @@ module _ (p : List ℕ) (one : FockVector) (pp : IsPartition p) (is : one ≡ fo
   values lambda h = ap (λ (v : FockVector). vector_of v.entries lambda) is
       ∙ vector_of-entries (degree p) (unit p) lambda h
 
+  -- the entries of the divided power of the one partition
   pub induced : (e i m : ℕ) (v : FockVector) →
       v ≡ fock_vector (one.degree + m) (divided_power e i m (vector_of one.entries)) →
       v.entries ≡ entries (degree p + m) (divided_power e i m (unit p))
@@ -23,6 +24,7 @@ module _ (p : List ℕ) (one : FockVector) (pp : IsPartition p) (is : one ≡ fo
       ∙ entries-alike (degree p + m) (divided_power e i m (vector_of one.entries)) (divided_power e i m (unit p))
       (λ lambda h. divided_power-alike e i m (degree p) (vector_of one.entries) (unit p) values lambda h.total)
 
+  -- its weight is within any limit
   pub never_too_large : (e i m limit : ℕ) → 1 ≤ limit →
       limit < induction_weight e i m one.degree (vector_of one.entries) → ⊥
   never_too_large e i m limit least past =
@@ -32,6 +34,7 @@ module _ (p : List ℕ) (one : FockVector) (pp : IsPartition p) (is : one ≡ fo
       ∙ induction_weight-alike e i m (degree p) (vector_of one.entries) (unit p) values in
       absurd (omega (arith, same, unit_weight e i m p, past, least))
 
+  -- the vector of one partition has no power but 0
   pub powers_small : AllByRecursion (λ s. PowersWithin 500000000 s.1) one.entries
   powers_small =
       subst (λ es. AllByRecursion (λ s. PowersWithin 500000000 s.1) es)

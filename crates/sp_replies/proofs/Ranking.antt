@@ -1,25 +1,19 @@
 -- The rank of an e-regular partition among those of its degree.
-use Rattle.std.proofs.Common.{◌≡◌, ℕ, zero, suc, ◌<◌, true, List, [], ◌∷◌, length, get_or, ◌∙◌, sym, refl, arith}
+use Rattle.std.proofs.Common.{◌≡◌, ℕ, ◌<◌, true, List, [], length, get_or, ◌∙◌, sym, refl, arith}
 use Rattle.std.proofs.Common.{Contains, Less}
-use Rattle.sp_defs.specs.Partition.{IsPartition, IsRegularOf, Ascending, compare, degree, is_regular, order, regulars}
+use Rattle.sp_defs.specs.Partition.{IsPartition, IsRegularOf, degree, is_regular, order, regulars}
 use Rattle.sp_shapes.proofs.Listing.{all_regulars, each_regular, regulars_ascend}
+use Rattle.sp_shapes.proofs.Order.{ascends_at}
 use Rattle.sp_lists.proofs.Places.{all_at}
 use Rattle.sp_partition.specs.OrderLaws.{order_one_degree}
 use Rattle.sp_lists.proofs.Occurrence.{contains}
-
-ascends : (xs : List (List ℕ)) (i j : ℕ) → Ascending xs → i < j → j < length xs →
-    compare (get_or xs i []) (get_or xs j []) ≡ Less
-ascends [] i j up lt h = absurd (omega (arith, h))
-ascends (x ∷ xs) i zero up lt h = absurd (omega (arith, lt))
-ascends (x ∷ xs) zero (suc j) (u, us) lt h = all_at (λ y. compare x y ≡ Less) xs j [] u (omega (arith, h))
-ascends (x ∷ xs) (suc i) (suc j) (u, us) lt h = ascends xs i j us (omega (arith, lt)) (omega (arith, h))
 
 -- The list of the e-regular partitions ascends in the order of partitions.
 pub ordered : (e n : ℕ) (i j : ℕ) → i < j → j < length (regulars e n) →
     order (get_or (regulars e n) i []) (get_or (regulars e n) j []) ≡ Less
 ordered e n i j lt h =
     order_one_degree (get_or rs i []) (get_or rs j []) ((at i (omega (arith, lt, h))).total ∙ sym (at j h).total)
-    ∙ ascends rs i j (regulars_ascend e n) lt h
+    ∙ ascends_at rs (regulars_ascend e n) i j lt h
   where
     rs : List (List ℕ)
     rs = regulars e n
