@@ -1,7 +1,6 @@
 // The dimensions of the simple modules, from the greatest column down.
 ghost use Rattle.std.specs.Prelude.{◌≡◌, ◌^◌, ◌<◌, ◌≤◌, ◌↔◌, ℕ, List, IfOk, OnOk, IfSome, IsNone, IsErrOf};
-ghost use Rattle.std.specs.Prelude.{length, position, nat_eq, [], ◌∷◌, ◌++◌};
-ghost use Rattle.std.specs.Cmp.Lexicographic.{pointwise};
+ghost use Rattle.std.specs.Prelude.{length, [], ◌∷◌, ◌++◌};
 ghost use Rattle.std.specs.List.{zip};
 ghost use Rattle.sp_fock_law.specs.Grid.{IsGrid};
 ghost use Rattle.sp_module_defs.specs.Cells.{IsSquareUnitriangular, cell_at, place};
