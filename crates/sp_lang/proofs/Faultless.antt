@@ -12,6 +12,7 @@ use Rattle.sp_lang.specs.Faults.{is_of_other_degree, is_no_residue, is_irregular
 use Rattle.sp_lang.specs.declared.fault.LineFault.{LineFault}
 use Rattle.sp_lang.specs.declared.verb.Place.{Place}
 
+-- What is known of the words of a line that has no fault.
 pub record Faultless (places : List Place) (ws : List (List ℕ)) : Type 0 where
   pub count : length ws ≡ length places
   pub numbers : any_word is_no_number places ws ≡ false

@@ -101,9 +101,11 @@ given_of places ws k count shapes limit at =
     (right_at (passes_limit (number (word_at ws 2))) places ws Partition k count limit at)
 
 module _ (places : List Place) (ws : List (List ℕ)) (f : Faultless places ws) (k : ℕ) where
+  -- a word at the place of e says an e
   pub e_at : slice_get places k ≡ Some E → IsE (number (word_at ws k))
   e_at at = e_of places ws k f.count f.numbers f.e_range at
 
+  -- one at the place of a residue a number below e
   pub residue_at : slice_get places k ≡ Some Residue → number (word_at ws k) < number (word_at ws 0)
   residue_at at =
       let e = number (word_at ws 0) in
@@ -112,6 +114,7 @@ module _ (places : List Place) (ws : List (List ℕ)) (f : Faultless places ws) 
       (right_at is_no_number places ws Residue k f.count f.numbers at)
       (right_at (is_no_residue e) places ws Residue k f.count f.residues at))
 
+  -- one at the place of a degree a number within the limit
   pub degree_at : slice_get places k ≡ Some Degree → number (word_at ws k) ≤ DEGREE_LIMIT
   degree_at at =
       ltb-false DEGREE_LIMIT (number (word_at ws k))
@@ -119,9 +122,11 @@ module _ (places : List Place) (ws : List (List ℕ)) (f : Faultless places ws) 
       (right_at is_no_number places ws Degree k f.count f.numbers at)
       (right_at (passes_limit (number (word_at ws 2))) places ws Degree k f.count f.limit at))
 
+  -- one at the place of a partition a partition that is held
   pub partition_at : slice_get places k ≡ Some Partition → IsGiven (partition (word_at ws k))
   partition_at at = given_of places ws k f.count f.partitions f.limit at
 
+  -- one at the place of a peer one of the same degree
   pub peer_at : slice_get places k ≡ Some Peer →
       IsGiven (partition (word_at ws k)) × (degree (partition (word_at ws k)) ≡ degree (partition (word_at ws 0)))
   peer_at at =
@@ -134,6 +139,7 @@ module _ (places : List Place) (ws : List (List ℕ)) (f : Faultless places ws) 
             (right_at (is_of_other_degree n) places ws Peer k f.count f.peers at))),
       )
 
+  -- one at the place of a partition to be grown one with room for so many nodes
   pub grown_at : slice_get places k ≡ Some Grown →
       IsPartition (partition (word_at ws k))
       × (degree (partition (word_at ws k)) + number (word_at ws 2) ≤ DEGREE_LIMIT)
@@ -144,6 +150,7 @@ module _ (places : List Place) (ws : List (List ℕ)) (f : Faultless places ws) 
       let few = small (word_at ws k) m some (right_at (passes_limit m) places ws Grown k f.count f.limit at) in
       (is_partition (word_at ws k) some, few, fits (word_at ws k) m few)
 
+  -- one at the place of a label one that is e-regular
   pub label_at : slice_get places k ≡ Some Label →
       IsGiven (partition (word_at ws k)) × (is_regular (number (word_at ws 0)) (partition (word_at ws k)) ≡ true)
   label_at at =
@@ -156,6 +163,7 @@ module _ (places : List Place) (ws : List (List ℕ)) (f : Faultless places ws) 
             (right_at (is_irregular e) places ws Label k f.count f.labels at)),
       )
 
+  -- one at the place of a quotient partitions that are held
   pub quotient_at : slice_get places k ≡ Some Quotient →
       All IsGiven (partitions (word_at ws k)) × (all_fitting (word_at ws k) ≡ partitions (word_at ws k))
   quotient_at at =
