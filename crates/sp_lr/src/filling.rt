@@ -1,4 +1,10 @@
 // Fillings, as chains of partitions.
+ghost use Rattle.std.specs.Prelude.{◌≡◌, ◌+◌, ◌≤◌, ◌<◌, ◌++◌, ◌∷◌, [], IfOk, OnOk, Err, length, map, sum};
+ghost use Rattle.sp_defs.specs.Partition.{degree as degree_of, part as part_of};
+ghost use Rattle.sp_lr_defs.specs.Filling.{ListsEach, IsChain};
+ghost use Rattle.sp_lr.specs.Strips.{behind, chains, IsRoom};
+ghost use Rattle.sp_lr.specs.Results.{AreMore, chains_in};
+
 use crate::LrFault;
 use crate::strips::strips;
 use sp_partition::{Items, Partition};
@@ -17,7 +23,12 @@ pub fn fillings(
     lambda: &Partition,
     mu: &Partition,
     most: usize,
-) -> Result<Vec<Filling>, LrFault> {
+) -> Result<Vec<Filling>, LrFault>
+    requires { degree_of lambda.now + degree_of mu.now ≤ 32 }
+    ensures lists { IfOk result (λ found. ListsEach (IsChain lambda.now mu.now) (chains_in found.items)) }
+    ensures few { IfOk result (λ found. length found.items ≤ most) }
+    ensures many { (result ≡ Err LrFault.TooMany) → AreMore (IsChain lambda.now mu.now) most }
+{
     let mut found = Vec::new(alloc);
     let mut chain = Vec::new(alloc);
     chain.push(*lambda).map_err(AllocError::from)?;
@@ -44,7 +55,17 @@ fn push_fillings(
     spare: u8,
     sizes: &[u8],
     most: usize,
-) -> Result<(), LrFault> {
+) -> Result<(), LrFault>
+    requires room { IsRoom before.now last.now spare }
+    requires small { degree_of last.now + sum sizes.now ≤ 32 }
+    requires few_before { length found.old.items ≤ most }
+    ensures found { OnOk result (chains_in found.new.items
+        ≡ chains_in found.old.items ++ behind chain.old.items (chains before.now last.now spare sizes.now)) }
+    ensures chain { OnOk result (chain.new.items ≡ chain.old.items) }
+    ensures few { OnOk result (length found.new.items ≤ most) }
+    ensures many { (result ≡ Err LrFault.TooMany) →
+        most < length found.old.items + length (chains before.now last.now spare sizes.now) }
+{
     match sizes {
         [] => {
             if found.len() == most {
@@ -54,7 +75,8 @@ fn push_fillings(
             Ok(())
         }
         [size, later @ ..] => {
-            for shape in &strips(alloc, before, last, spare, *size)? {
+            let shapes = strips(alloc, before, last, spare, *size)?;
+            for shape in &shapes {
                 chain.push(*shape).map_err(AllocError::from)?;
                 push_fillings(alloc, found, chain, last, shape, 0, later, most)?;
                 chain.pop();
@@ -68,7 +90,10 @@ fn push_filling(
     alloc: Global,
     found: &mut Vec<Filling>,
     chain: &[Partition],
-) -> Result<(), AllocError> {
+) -> Result<(), AllocError>
+    ensures chains { OnOk result (chains_in found.new.items ≡ chains_in found.old.items ++ chain.now ∷ []) }
+    ensures one { OnOk result (length found.new.items ≡ length found.old.items + 1) }
+{
     let chain = Items::of(Vec::from_slice(alloc, chain)?);
     found.push(Filling { chain })?;
     Ok(())

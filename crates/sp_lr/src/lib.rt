@@ -3,12 +3,12 @@
 
 mod fault;
 mod filling;
-mod product;
+mod products;
 mod strips;
 
 pub use fault::LrFault;
 pub use filling::{Filling, fillings};
-pub use product::product;
+pub use products::product;
 
 #[cfg(test)]
 mod tests;

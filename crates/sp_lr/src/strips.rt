@@ -1,4 +1,9 @@
 // Horizontal strips whose nodes are covered by those of the strip before.
+ghost use Rattle.std.specs.Prelude.{◌≡◌, ◌+◌, ◌≤◌, ◌<◌, ◌++◌, ◌∷◌, [], List, ℕ, IfOk, OnOk, length, slice_index};
+ghost use Rattle.sp_defs.specs.Partition.{degree as degree_of, part as part_of};
+ghost use Rattle.sp_partition.specs.Held.{IsHeld};
+ghost use Rattle.sp_lr.specs.Strips.{strips as strips_of, rows_of, last_rows, strips_after, Falls, AreHeld, behind};
+ghost use Rattle.sp_lr.specs.Strips.{all_gained, IsRoom};
 
 use arrayvec::ArrayVec;
 use sp_partition::Partition;
@@ -20,7 +25,11 @@ pub(crate) fn strips(
     last: &Partition,
     spare: u8,
     count: u8,
-) -> Result<Vec<Partition>, AllocError> {
+) -> Result<Vec<Partition>, AllocError>
+    requires room { IsRoom before.now last.now spare }
+    requires small { degree_of last.now + count ≤ 32 }
+    ensures { IfOk result (λ list. list.items ≡ strips_after before.now last.now spare count) }
+{
     let rows = rows(before, last);
     let mut list = Vec::new(alloc);
     let mut front = ArrayVec::new();
@@ -36,7 +45,10 @@ pub(crate) fn strips(
 }
 
 // The rows of `last`.
-fn rows(before: &Partition, last: &Partition) -> ArrayVec<Row, 32> {
+fn rows(before: &Partition, last: &Partition) -> ArrayVec<Row, 32>
+    requires { (i : ℕ) → slice_index before.now i ≤ slice_index last.now i }
+    ensures { result.items ≡ rows_of before.now last.now }
+{
     let mut rows = ArrayVec::new();
     for row in 1..last.row_count() + 1 {
         rows.push(Row {
@@ -56,7 +68,15 @@ fn push_strips(
     above: u8,
     spare: u8,
     left: u8,
-) -> Result<(), AllocError> {
+) -> Result<(), AllocError>
+    requires falls { Falls above rows.now }
+    requires room { length front.old.items + length rows.now ≤ 32 }
+    requires spared { spare + all_gained rows.now ≤ 64 }
+    requires held { AreHeld front.old.items (strips_of rows.now above spare left) }
+    ensures strips { OnOk result
+        (list.new.items ≡ list.old.items ++ behind front.old.items (strips_of rows.now above spare left)) }
+    ensures front { OnOk result (front.new.items ≡ front.old.items) }
+{
     let most = left.min(spare);
     match rows {
         [] => push_last(list, front, most.min(above), left),
@@ -84,7 +104,12 @@ fn push_last(
     front: &mut ArrayVec<u8, 33>,
     most: u8,
     left: u8,
-) -> Result<(), AllocError> {
+) -> Result<(), AllocError>
+    requires room { length front.old.items ≤ 32 }
+    requires held { AreHeld front.old.items (last_rows most left) }
+    ensures rows { OnOk result (list.new.items ≡ list.old.items ++ behind front.old.items (last_rows most left)) }
+    ensures front { OnOk result (front.new.items ≡ front.old.items) }
+{
     if left > most {
         return Ok(());
     }
@@ -97,7 +122,10 @@ fn push_last(
     Ok(())
 }
 
-fn push_partition(list: &mut Vec<Partition>, parts: &[u8]) -> Result<(), AllocError> {
+fn push_partition(list: &mut Vec<Partition>, parts: &[u8]) -> Result<(), AllocError>
+    requires { IsHeld parts.now }
+    ensures { OnOk result (list.new.items ≡ list.old.items ++ parts.now ∷ []) }
+{
     list.push(Partition::from_parts(parts).unwrap())?;
     Ok(())
 }

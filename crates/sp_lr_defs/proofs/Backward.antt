@@ -12,7 +12,7 @@ use Rattle.sp_lr_defs.specs.Filling.{IsFilling, IsOutside, IsChainTo, row, numbe
 use Rattle.sp_lr_defs.specs.Strip.{first, gained, Covers, IsStrip, IsNext, AreStrips, IsStripChain, end_from}
 use Rattle.sp_lr_defs.proofs.Sorted.{Rises, rises_next, count_to, place_counted, counted_place}
 use Rattle.sp_lr_defs.proofs.Sums.{first-alike, first-zeros}
-use Rattle.sp_lr_defs.proofs.Trimmed.{mapped_at, mapped_past, mapped_is, descends}
+use Rattle.sp_lr_defs.proofs.Trimmed.{mapped_at, mapped_past, past_end, mapped_is, descends}
 use Rattle.sp_lr_defs.proofs.Words.{Counted, word-all, fronts_hold}
 use Rattle.sp_lr_defs.proofs.Forward.{part_at, row_at, number_at, member_at, member_partition, reach}
 use Rattle.sp_lr_defs.proofs.Strips.{degree-gained, times}
@@ -77,12 +77,6 @@ filled mu shape =
 
 grows : (mu : List ℕ) (shape : ℕ → List ℕ) → AreMembers mu shape → (i : ℕ) → Grows (reached shape i) (length mu)
 grows mu shape h i k lt = (h.strips k lt).grows i
-
--- where a list has ended
-past_end : (xs : List ℕ) (i : ℕ) → length xs ≤ i → slice_index xs i ≡ 0
-past_end [] i h = refl
-past_end (x ∷ xs) zero h = absurd (omega arith)
-past_end (x ∷ xs) (suc i) h = past_end xs i (omega arith)
 
 nothing : (xs : List ℕ) → length xs ≡ 0 → [] ≡ xs
 nothing [] e = refl

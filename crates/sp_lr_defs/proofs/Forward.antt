@@ -12,7 +12,7 @@ use Rattle.sp_lr_defs.specs.Strip.{first, gained, Covers, IsStrip, IsNext, AreSt
 use Rattle.sp_lr_defs.proofs.Sorted.{Rises, rises, count_to, count_one, count_le_length, place_counted, counted_place}
 use Rattle.sp_lr_defs.proofs.Sorted.{all_counted, none_counted}
 use Rattle.sp_lr_defs.proofs.Sums.{first-list, first-list_le, first-minus, first-alike, first-zeros}
-use Rattle.sp_lr_defs.proofs.Trimmed.{mapped_at, mapped_past, Descends, trimmed_at, trimmed_partition, descends}
+use Rattle.sp_lr_defs.proofs.Trimmed.{mapped_at, mapped_past, past_end, Descends, trimmed_at, trimmed_partition, descends}
 use Rattle.sp_lr_defs.proofs.Words.{Counted, word-all, sums_hold}
 
 -- ---- rows counted from 0
@@ -154,12 +154,6 @@ lengths_descend lambda mu nu rows hl h k i = settle (le_or_lt (length rows) (suc
           apart_at lambda mu nu rows hl h k i,
           reach_more lambda rows k (suc i),
         )
-
--- where a list has ended
-past_end : (xs : List ℕ) (i : ℕ) → length xs ≤ i → slice_index xs i ≡ 0
-past_end [] i h = refl
-past_end (x ∷ xs) zero h = absurd (omega arith)
-past_end (x ∷ xs) (suc i) h = past_end xs i (omega arith)
 
 -- the rows of a member
 pub member_at : (lambda mu nu : List ℕ) (rows : List (List ℕ)) → IsPartition lambda → IsFilling lambda mu nu rows →

@@ -87,7 +87,7 @@ member_strip lambda mu nu rows hl h k lt = record {
           part_is,
         )
 
--- where a list has ended
+-- what holds of each row
 past_rows : (P : List ℕ → Type 0) (rows : List (List ℕ)) → ((i : ℕ) → P (slice_index_or rows i [])) →
     AllByRecursion P rows
 past_rows P rows f = all_places P rows [] (λ i lt. f i)

@@ -33,6 +33,12 @@ mapped_is f d a (x ∷ xs) h =
     moved : (a i : ℕ) → a + 1 + i ≡ a + suc i
     moved a i = omega arith
 
+-- behind the end of a list stands 0
+pub past_end : (xs : List ℕ) (i : ℕ) → length xs ≤ i → slice_index xs i ≡ 0
+past_end [] i h = refl
+past_end (x ∷ xs) zero h = absurd (omega arith)
+past_end (x ∷ xs) (suc i) h = past_end xs i (omega arith)
+
 -- ---- lists that decrease weakly
 
 -- each number is at least the next

@@ -44,7 +44,8 @@ fn push_ends(
             Ok(())
         }
         [size, later @ ..] => {
-            for shape in &strips(alloc, before, last, spare, *size)? {
+            let shapes = strips(alloc, before, last, spare, *size)?;
+            for shape in &shapes {
                 push_ends(alloc, ends, last, shape, 0, later, most)?;
             }
             Ok(())

@@ -1,0 +1,6 @@
+pub mod LastRows
+pub mod InOrder
+pub mod Rounds
+pub mod Tails
+pub mod RowsOf
+pub mod ChainLists
