@@ -4,3 +4,4 @@ pub mod Rounds
 pub mod Tails
 pub mod RowsOf
 pub mod ChainLists
+pub mod Continuing

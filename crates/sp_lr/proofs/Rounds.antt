@@ -33,7 +33,8 @@ pub strips-cons : (row : Row) (rows : List Row) (above spare left : ℕ) →
 unfolding strips
 strips-cons row rows above spare left = refl
 
-behind-cons : (front : List ℕ) (x : ℕ) (tails : List (List ℕ)) →
+-- behind one member more
+pub behind-cons : {X : Type 0} (front : List X) (x : X) (tails : List (List X)) →
     behind front (map (λ below. x ∷ below) tails) ≡ behind (front ++ x ∷ []) tails
 behind-cons front x [] = refl
 behind-cons front x (tail ∷ tails) = ap₂ (λ t ts. t ∷ ts) (sym (append_assoc front (x ∷ []) tail)) (behind-cons front x tails)
@@ -43,7 +44,8 @@ pub behind-nil : {X : Type 0} (tails : List (List X)) → behind [] tails ≡ ta
 behind-nil [] = refl
 behind-nil (tail ∷ tails) = ap (λ ts. tail ∷ ts) (behind-nil tails)
 
-behind-append : (front : List ℕ) (xs ys : List (List ℕ)) → behind front (xs ++ ys) ≡ behind front xs ++ behind front ys
+-- behind two lists joined
+pub behind-append : {X : Type 0} (front : List X) (xs ys : List (List X)) → behind front (xs ++ ys) ≡ behind front xs ++ behind front ys
 behind-append front xs ys = map-append (λ tail. front ++ tail) xs ys
 
 -- one round of the loop
@@ -157,7 +159,7 @@ strips-nil [] above spare left most h e = ap (λ m. last_rows m left) (sym e)
 strips-nil (row ∷ rows) above spare left most h e = absurd (omega arith)
 
 -- a list that lost its last member
-pub without_last : (all front left : List ℕ) (x : ℕ) → all ≡ front ++ x ∷ [] → left ≡ take (length all - 1) all → left ≡ front
+pub without_last : {X : Type 0} (all front left : List X) (x : X) → all ≡ front ++ x ∷ [] → left ≡ take (length all - 1) all → left ≡ front
 without_last all front left x is taken =
     taken
     ∙ ap (λ xs. take (length xs - 1) xs) is

@@ -6,7 +6,7 @@ ghost use Rattle.sp_lr.specs.Strips.{behind, chains, IsRoom};
 ghost use Rattle.sp_lr.specs.Results.{AreMore, chains_in};
 
 use crate::LrFault;
-use crate::strips::strips;
+use crate::strips::{append, strips};
 use sp_partition::{Items, Partition};
 use std::alloc::{AllocError, Global};
 
@@ -31,7 +31,7 @@ pub fn fillings(
 {
     let mut found = Vec::new(alloc);
     let mut chain = Vec::new(alloc);
-    chain.push(*lambda).map_err(AllocError::from)?;
+    append(&mut chain, *lambda)?;
     push_fillings(
         alloc,
         &mut found,
@@ -77,7 +77,7 @@ fn push_fillings(
         [size, later @ ..] => {
             let shapes = strips(alloc, before, last, spare, *size)?;
             for shape in &shapes {
-                chain.push(*shape).map_err(AllocError::from)?;
+                append(chain, *shape)?;
                 push_fillings(alloc, found, chain, last, shape, 0, later, most)?;
                 chain.pop();
             }

@@ -1,6 +1,14 @@
 // Products of Schur functions: how many fillings each partition has.
+ghost use Rattle.std.specs.Prelude.{◌≡◌, ◌+◌, ◌≤◌, ◌<◌, ◌++◌, [], IfOk, OnOk, Err, length, map, sum};
+ghost use Rattle.std.specs.List.{AllByRecursion};
+ghost use Rattle.sp_defs.specs.Partition.{degree as degree_of, part as part_of};
+ghost use Rattle.sp_lr_defs.specs.Filling.{IsChain};
+ghost use Rattle.sp_lr_defs.specs.Strip.{end_from};
+ghost use Rattle.sp_lr.specs.Strips.{chains, IsRoom};
+ghost use Rattle.sp_lr.specs.Results.{AreMore, IsProduct};
+
 use crate::LrFault;
-use crate::strips::strips;
+use crate::strips::{append, strips};
 use sp_partition::Partition;
 use std::alloc::{AllocError, Global};
 
@@ -10,7 +18,12 @@ pub fn product(
     lambda: &Partition,
     mu: &Partition,
     most: usize,
-) -> Result<Vec<(Partition, u64)>, LrFault> {
+) -> Result<Vec<(Partition, u64)>, LrFault>
+    requires { degree_of lambda.now + degree_of mu.now ≤ 32 }
+    ensures pairs { IfOk result (λ pairs. IsProduct lambda.now mu.now pairs.items) }
+    ensures few { IfOk result (λ pairs. sum (map (λ p. p.1) pairs.items) ≤ most) }
+    ensures many { (result ≡ Err LrFault.TooMany) → AreMore (IsChain lambda.now mu.now) most }
+{
     let mut ends = Vec::new(alloc);
     push_ends(
         alloc,
@@ -34,13 +47,22 @@ fn push_ends(
     spare: u8,
     sizes: &[u8],
     most: usize,
-) -> Result<(), LrFault> {
+) -> Result<(), LrFault>
+    requires room { IsRoom before.now last.now spare }
+    requires small { degree_of last.now + sum sizes.now ≤ 32 }
+    requires few_before { length ends.old.items ≤ most }
+    ensures ends { OnOk result (ends.new.items
+        ≡ ends.old.items ++ map (end_from last.now) (chains before.now last.now spare sizes.now)) }
+    ensures few { OnOk result (length ends.new.items ≤ most) }
+    ensures many { (result ≡ Err LrFault.TooMany) →
+        most < length ends.old.items + length (chains before.now last.now spare sizes.now) }
+{
     match sizes {
         [] => {
             if ends.len() == most {
                 return Err(LrFault::TooMany);
             }
-            ends.push(*last).map_err(AllocError::from)?;
+            append(ends, *last)?;
             Ok(())
         }
         [size, later @ ..] => {

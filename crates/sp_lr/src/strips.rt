@@ -122,10 +122,18 @@ fn push_last(
     Ok(())
 }
 
+// Appends one partition.
+pub(crate) fn append(list: &mut Vec<Partition>, partition: Partition) -> Result<(), AllocError>
+    ensures { OnOk result (list.new.items ≡ list.old.items ++ partition ∷ []) }
+{
+    list.push(partition)?;
+    Ok(())
+}
+
+// Appends the partition with these parts.
 fn push_partition(list: &mut Vec<Partition>, parts: &[u8]) -> Result<(), AllocError>
     requires { IsHeld parts.now }
     ensures { OnOk result (list.new.items ≡ list.old.items ++ parts.now ∷ []) }
 {
-    list.push(Partition::from_parts(parts).unwrap())?;
-    Ok(())
+    append(list, Partition::from_parts(parts).unwrap())
 }
