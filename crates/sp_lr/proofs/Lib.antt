@@ -5,3 +5,4 @@ pub mod Tails
 pub mod RowsOf
 pub mod ChainLists
 pub mod Continuing
+pub mod Groups

@@ -1,5 +1,5 @@
 -- What the calls answer.
-use Rattle.std.specs.Prelude.{◌≡◌, ℕ, ◌<◌, ◌≤◌, List, [], ◌∷◌, map, length}
+use Rattle.std.specs.Prelude.{◌≡◌, ◌≢◌, ℕ, ◌-◌, ◌<◌, ◌≤◌, List, [], ◌∷◌, ◌++◌, map, length, replicate, slice_index_or}
 use Rattle.std.specs.List.{AllByRecursion, Contains}
 use Rattle.std.specs.declared.cmp.Ordering.{Ordering}
 use Rattle.std.specs.declared.cmp.Ordering.TheVariants.{Greater}
@@ -27,6 +27,15 @@ pub record AreMore (P : List (List ℕ) → Type 0) (n : ℕ) : Type 0 where
 abbrev pub DescendingPairs : List (List ℕ × ℕ) → Type 0
 DescendingPairs [] = Unit {0}
 DescendingPairs (pair ∷ rest) = AllByRecursion (λ p. order pair.0 p.0 ≡ Greater) rest × DescendingPairs rest
+
+-- The list in which each partition stands as often as its pair says, the last pair first.
+abbrev pub spread : List (List ℕ × ℕ) → List (List ℕ)
+spread [] = []
+spread (pair ∷ pairs) = spread pairs ++ replicate pair.1 pair.0
+
+-- The member before this place is another.
+abbrev pub IsFirst : List (List ℕ) → ℕ → Type 0
+IsFirst ends place = 0 < place → slice_index_or ends (place - 1) [] ≢ slice_index_or ends place []
 
 -- The pairs are the partitions that have a filling over lambda with content mu, each with the number of its fillings.
 pub record IsProduct (lambda mu : List ℕ) (pairs : List (List ℕ × ℕ)) : Type 0 where

@@ -1,11 +1,12 @@
 // Products of Schur functions: how many fillings each partition has.
-ghost use Rattle.std.specs.Prelude.{◌≡◌, ◌+◌, ◌≤◌, ◌<◌, ◌++◌, [], IfOk, OnOk, Err, length, map, sum};
+ghost use Rattle.std.specs.Prelude.{◌≡◌, ◌+◌, ◌≤◌, ◌<◌, ◌++◌, [], IfOk, OnOk, Err, IsTrue, ◌↔◌, length, map, sum};
+ghost use Rattle.std.specs.List.Sorted.{IsSorted};
 ghost use Rattle.std.specs.List.{AllByRecursion};
-ghost use Rattle.sp_defs.specs.Partition.{degree as degree_of, part as part_of};
+ghost use Rattle.sp_defs.specs.Partition.{degree as degree_of, order};
 ghost use Rattle.sp_lr_defs.specs.Filling.{IsChain};
 ghost use Rattle.sp_lr_defs.specs.Strip.{end_from};
 ghost use Rattle.sp_lr.specs.Strips.{chains, IsRoom};
-ghost use Rattle.sp_lr.specs.Results.{AreMore, IsProduct};
+ghost use Rattle.sp_lr.specs.Results.{AreMore, IsProduct, DescendingPairs, spread, IsFirst};
 
 use crate::LrFault;
 use crate::strips::{append, strips};
@@ -35,7 +36,7 @@ pub fn product(
         most,
     )?;
     ends.sort()?;
-    Ok(counted(alloc, ends)?)
+    Ok(counted(alloc, &ends)?)
 }
 
 // Appends the end of each chain that goes on from `last` by strips of these sizes.
@@ -76,15 +77,28 @@ fn push_ends(
 }
 
 // The members of an ascending list, descending, each with how often it stands there.
-fn counted(
-    alloc: Global,
-    mut ends: Vec<Partition>,
-) -> Result<Vec<(Partition, u64)>, AllocError> {
+fn counted(alloc: Global, ends: &[Partition]) -> Result<Vec<(Partition, u64)>, AllocError>
+    requires { IsSorted order ends.now }
+    ensures spread { IfOk result (λ pairs. ends.now ≡ spread pairs.items) }
+    ensures descending { IfOk result (λ pairs. DescendingPairs pairs.items) }
+    ensures some { IfOk result (λ pairs. AllByRecursion (λ p. 1 ≤ p.1) pairs.items) }
+{
     let mut pairs = Vec::new(alloc);
-    while let Some(end) = ends.last().copied() {
-        let start = ends.partition_point(|p| *p < end);
-        pairs.push((end, (ends.len() - start) as u64))?;
-        ends.truncate(start);
+    let mut count = 0;
+    for place in (0..ends.len()).rev() {
+        count += 1;
+        if is_first(ends, place) {
+            pairs.push((ends[place], count))?;
+            count = 0;
+        }
     }
     Ok(pairs)
+}
+
+// Whether the member before this one is another.
+fn is_first(ends: &[Partition], place: usize) -> bool
+    requires { place < length ends.now }
+    ensures { IsTrue result ↔ IsFirst ends.now place }
+{
+    place == 0 || ends[place - 1] != ends[place]
 }

@@ -1,5 +1,5 @@
 use Rattle.std.proofs.Common.{rules, ◌≡◌, ◌+◌, ◌-◌, ◌≤◌, ◌<◌, ◌++◌, ◌∷◌, [], arith, subst, sym, ◌∙◌, ap, ap₂, length, slice_index}
-use Rattle.std.proofs.Common.{take, flat_map, append-nil, List, ℕ}
+use Rattle.std.proofs.Common.{take, flat_map, append-nil, List, ℕ, vec_len}
 use Rattle.std.proofs.Math.Seq.{take-length}
 use Rattle.std.proofs.lemmas.List.{length-map}
 use Rattle.std.proofs.lemmas.Result.{err_from_is_err_and}
@@ -71,9 +71,11 @@ loop-shape-preserved t c =
     let within : c.loop-shape.shape-index < length c.deref-shape-items.result.now = omega arith in
     let grows : c.append.new.list.items ≡ c.args.chain.now.items ++ c.shape-item.result ∷ [] =
     c.in_ok-append-in-len1-up.ensures ∙ ap (λ xs. xs ++ c.shape-item.result ∷ []) c.loop-shape.invariant.chain in
+    let count : vec_len c.push_fillings.new.chain ≡ length c.push_fillings.new.chain.items = omega arith in
     record {
       chain = without_last c.push_fillings.new.chain.items c.args.chain.now.items c.pop.new.self.items c.shape-item.result
-          (c.in_ok-push_fillings-in-len1-up.ensures.chain ∙ grows) c.pop.ensures.rest;
+          (c.in_ok-push_fillings-in-len1-up.ensures.chain ∙ grows)
+          (c.pop.ensures.rest ∙ ap (λ n. take (n - 1) c.push_fillings.new.chain.items) count);
       found = found_more (chains_in c.args.found.now.items) (chains_in c.loop-shape.found.items)
           (chains_in c.push_fillings.new.found.items) c.args.chain.now.items c.append.new.list.items c.args.last.now
           (later c.args.sizes.now) c.deref-shape-items.result.now c.loop-shape.shape-index c.shape-item.result within
