@@ -114,10 +114,12 @@ chains_listed before last spare (n ∷ ns) (shape ∷ shapes) h (next, more) =
     (occurs_map (λ rest. shape ∷ rest) shapes (chains last shape 0 ns)
     (chains_listed last shape 0 ns shapes next.strip.partition more)))
 
+-- chains with a later first member are later
 later_chain : (x y : List ℕ) (xs ys : List (List ℕ)) → order x y ≡ Greater → IsLaterChain (x ∷ xs) (y ∷ ys)
 later_chain x y xs ys h = ap (λ o. ordering_then o (slice_cmp order xs ys)) h
 
-later_chain_rest : (x : List ℕ) (xs ys : List (List ℕ)) → IsLaterChain xs ys → IsLaterChain (x ∷ xs) (x ∷ ys)
+-- and so are chains whose rest is later
+pub later_chain_rest : (x : List ℕ) (xs ys : List (List ℕ)) → IsLaterChain xs ys → IsLaterChain (x ∷ xs) (x ∷ ys)
 later_chain_rest x xs ys h = ap (λ o. ordering_then o (slice_cmp order xs ys)) (tied_itself order_total x) ∙ h
 
 -- The chains descend.
@@ -146,7 +148,8 @@ chains_descend before last spare (n ∷ ns) h =
 abbrev pub all_chains : List ℕ → List ℕ → List (List (List ℕ))
 all_chains lambda mu = map (λ shapes. lambda ∷ shapes) (chains lambda lambda (part mu 1) mu)
 
-descending : (chains : List (List (List ℕ))) → InOrder IsLaterChain chains → DescendingChains chains
+-- in the words of the contract
+pub descending : (chains : List (List (List ℕ))) → InOrder IsLaterChain chains → DescendingChains chains
 descending [] h = tt
 descending (chain ∷ chains) (h, hs) = (h, descending chains hs)
 

@@ -1,7 +1,7 @@
 -- Equal members of an ascending list, counted from its end.
 use Rattle.std.proofs.Common.{◌≡◌, ◌≢◌, ℕ, zero, suc, ◌+◌, ◌-◌, ◌<◌, ◌≤◌, Bool, true, false, List, [], ◌∷◌, ◌++◌, refl, sym}
 use Rattle.std.proofs.Common.{◌∙◌, ap, ap₂, subst, arith, length, slice_index_or, replicate, take, append_assoc, append-nil}
-use Rattle.std.proofs.Common.{Less, Equal, Greater, Ordering, add-one}
+use Rattle.std.proofs.Common.{Less, Equal, Greater, Ordering, add-one, IsTrue, ◌↔◌, ◌⊎◌, inl, inr, nat_eq}
 use Rattle.std.specs.List.{AllByRecursion}
 use Rattle.std.specs.List.Sorted.{IsSorted}
 use Rattle.std.specs.Ordering.{ordering_reverse, is_lt}
@@ -10,7 +10,8 @@ use Rattle.std.proofs.lemmas.List.{take_more}
 use Rattle.sp_defs.specs.Partition.{order}
 use Rattle.sp_lists.proofs.Elements.{all_append, le_or_lt}
 use Rattle.sp_lists.proofs.Places.{all_weaken}
-use Rattle.sp_partition.specs.OrderLaws.{order_total, order_equal}
+use Rattle.std.specs.Cmp.Lexicographic.{pointwise}
+use Rattle.sp_partition.specs.OrderLaws.{order_total, order_equal, equal_lists, lists_equal}
 use Rattle.sp_lr.specs.Results.{spread, DescendingPairs, IsFirst}
 
 -- a member of the list
@@ -143,3 +144,33 @@ count_all ends i count pairs z h =
     none : (n : ℕ) → count ≡ n → count ≡ 0
     none zero e = e
     none (suc n) e = absurd (omega (arith, (h.same (omega arith)).0))
+
+-- ---- what the code tells
+
+-- a member that the code reads
+pub same_member : (ends : List (List ℕ)) (j : ℕ) (x : List ℕ) → j < length ends → x ≡ slice_index_or ends j x → x ≡ at ends j
+same_member ends j x lt e = e ∙ fallback ends j x [] lt
+  where
+    fallback : (xs : List (List ℕ)) (i : ℕ) (x y : List ℕ) → i < length xs → slice_index_or xs i x ≡ slice_index_or xs i y
+    fallback [] i x y lt = absurd (omega arith)
+    fallback (z ∷ xs) zero x y lt = refl
+    fallback (z ∷ xs) (suc i) x y lt = fallback xs i x y (omega arith)
+
+-- where a member is not the first of its kind, the one before is the same
+pub same_before : (ends : List (List ℕ)) (j : ℕ) (b : Bool) → (IsTrue b ↔ IsFirst ends j) → b ≡ false →
+    (0 < j) × (at ends (j - 1) ≡ at ends j)
+same_before ends j b is e = settle (le_or_lt j 0)
+  where
+    never : IsFirst ends j → ⊥
+    never f = let t : b ≡ true = is.1 f in cc
+
+    settle : (j ≤ 0) ⊎ (0 < j) → (0 < j) × (at ends (j - 1) ≡ at ends j)
+    settle (inl z) = absurd (never (λ pos. absurd (omega arith)))
+    settle (inr pos) = (pos, known (pointwise nat_eq (at ends (j - 1)) (at ends j)) refl)
+      where
+        known : (d : Bool) → pointwise nat_eq (at ends (j - 1)) (at ends j) ≡ d → at ends (j - 1) ≡ at ends j
+        known true h = equal_lists (at ends (j - 1)) (at ends j) h
+        known false h = absurd (never (λ _ same. wrong (sym (lists_equal (at ends (j - 1)) (at ends j) same) ∙ h)))
+          where
+            wrong : true ≡ false → ⊥
+            wrong w = cc

@@ -6,3 +6,4 @@ pub mod RowsOf
 pub mod ChainLists
 pub mod Continuing
 pub mod Groups
+pub mod Totals

@@ -7,7 +7,7 @@ ghost use Rattle.sp_lr.specs.Results.{AreMore, chains_in};
 
 use crate::LrFault;
 use crate::strips::{append, strips};
-use sp_partition::{Items, Partition};
+use sp_partition::{CAPACITY, Items, Partition};
 use std::alloc::{AllocError, Global};
 
 /// A filling of a skew shape with numbers.
@@ -29,6 +29,8 @@ pub fn fillings(
     ensures few { IfOk result (λ found. length found.items ≤ most) }
     ensures many { (result ≡ Err LrFault.TooMany) → AreMore (IsChain lambda.now mu.now) most }
 {
+    // the proof needs what the type keeps: a partition of at most the capacity
+    prove!(lambda.degree() <= CAPACITY);
     let mut found = Vec::new(alloc);
     let mut chain = Vec::new(alloc);
     append(&mut chain, *lambda)?;

@@ -10,7 +10,7 @@ ghost use Rattle.sp_lr.specs.Results.{AreMore, IsProduct, DescendingPairs, sprea
 
 use crate::LrFault;
 use crate::strips::{append, strips};
-use sp_partition::Partition;
+use sp_partition::{CAPACITY, Partition};
 use std::alloc::{AllocError, Global};
 
 /// The partitions that have a filling over `lambda` with content `mu`, descending, each with the number of its fillings.
@@ -25,6 +25,8 @@ pub fn product(
     ensures few { IfOk result (λ pairs. sum (map (λ p. p.1) pairs.items) ≤ most) }
     ensures many { (result ≡ Err LrFault.TooMany) → AreMore (IsChain lambda.now mu.now) most }
 {
+    // the proof needs what the type keeps: a partition of at most the capacity
+    prove!(lambda.degree() <= CAPACITY);
     let mut ends = Vec::new(alloc);
     push_ends(
         alloc,
