@@ -1,23 +1,23 @@
 -- The chains that go on by strips: each is listed, once, descending.
-use Rattle.std.proofs.Common.{◌≡◌, ◌≢◌, ℕ, zero, suc, ◌+◌, ◌-◌, ◌<◌, ◌≤◌, min, List, [], ◌∷◌, ◌++◌, map, flat_map, refl, sym}
-use Rattle.std.proofs.Common.{◌∙◌, ap, ap₂, subst, arith, length, slice_index, ◌⊎◌, inl, inr, Greater, Equal, nat_cmp, Contains}
+use Rattle.std.proofs.Common.{◌≡◌, ℕ, ◌+◌, ◌-◌, ◌<◌, ◌≤◌, min, List, [], ◌∷◌, map, flat_map, refl, sym}
+use Rattle.std.proofs.Common.{◌∙◌, ap, subst, arith, length, ◌⊎◌, inl, inr, Greater, nat_cmp}
 use Rattle.std.specs.List.{AllByRecursion}
 use Rattle.std.specs.Ordering.{ordering_then}
 use Rattle.std.specs.Cmp.Lexicographic.{slice_cmp}
 use Rattle.std.proofs.lemmas.Cmp.{nat_cmp_total, tied_itself}
 use Rattle.std.proofs.lemmas.Bool.Decides.{nat_tests}
-use Rattle.sp_defs.specs.Partition.{part, IsPartition, degree, compare, order}
+use Rattle.sp_defs.specs.Partition.{part, IsPartition, compare, order}
 use Rattle.sp_lists.proofs.Elements.{all_flat, all_map, all_every, le_or_lt}
 use Rattle.sp_lists.proofs.Places.{all_weaken}
 use Rattle.sp_lists.proofs.Occurrence.{Occurs, occurs_flat, occurs_map, at_occurs, contains, occurs}
 use Rattle.sp_partition.specs.OrderLaws.{order_total, order_one_degree}
-use Rattle.sp_lr_defs.specs.Filling.{IsChain, IsChainTo, IsFilling, chain_of, IsLaterChain, DescendingChains, ListsEach}
+use Rattle.sp_lr_defs.specs.Filling.{IsChain, chain_of, IsLaterChain, DescendingChains, ListsEach}
 use Rattle.sp_lr_defs.specs.Strip.{IsNext, AreStrips, IsStripChain, end_from}
 use Rattle.sp_lr_defs.proofs.Strips.{strips_of_filling}
 use Rattle.sp_lr_defs.proofs.Backward.{filling_of_strips}
 use Rattle.sp_lr.specs.Strips.{strips, down, last_rows, strips_after, chains, rows_of}
 use Rattle.sp_lr.specs.declared.strips.Row.{Row}
-use Rattle.sp_lr.proofs.InOrder.{InOrder, in_order-map, in_order-weaken, in_order-flat, down_all, down_descends}
+use Rattle.sp_lr.proofs.InOrder.{InOrder, in_order-map, in_order-weaken, in_order-flat, down_descends}
 use Rattle.sp_lr.proofs.LastRows.{last_rows-none, last_rows-zero, last_rows-one}
 use Rattle.sp_lr.proofs.Rounds.{block, end_of, strips-cons, strips-nil}
 use Rattle.sp_lr.proofs.RowsOf.{listed_next, next_listed}

@@ -1,8 +1,8 @@
 -- Lists of which each member stands in a relation to all that follow it.
-use Rattle.std.proofs.Common.{◌≡◌, ℕ, zero, suc, ◌<◌, List, [], ◌∷◌, ◌++◌, map, flat_map, refl, sym, ◌∙◌, ap, subst, arith}
+use Rattle.std.proofs.Common.{ℕ, zero, suc, ◌<◌, List, [], ◌∷◌, ◌++◌, map, flat_map, sym, subst, arith}
 use Rattle.std.specs.List.{AllByRecursion}
 use Rattle.std.proofs.lemmas.List.Concat.{flat_map-cons}
-use Rattle.sp_lists.proofs.Elements.{all_append, all_flat, all_map}
+use Rattle.sp_lists.proofs.Elements.{all_append, all_map}
 use Rattle.sp_lists.proofs.Places.{all_weaken}
 use Rattle.sp_lr.specs.Strips.{down}
 

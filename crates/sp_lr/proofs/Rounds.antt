@@ -1,12 +1,12 @@
 -- Rounds over the numbers of nodes that a row may gain, from the most down.
 use Rattle.std.proofs.Common.{◌≡◌, ℕ, zero, suc, ◌+◌, ◌-◌, ◌<◌, ◌≤◌, min, List, [], ◌∷◌, ◌++◌, map, flat_map, refl, sym, ◌∙◌}
-use Rattle.std.proofs.Common.{ap, ap₂, subst, ◌⊎◌, inl, inr, eq-or-lt_of_le, arith, append_assoc, append-nil, length, add-one}
-use Rattle.std.specs.List.{AllByRecursion, range_with_len}
+use Rattle.std.proofs.Common.{ap, ap₂, subst, ◌⊎◌, inl, inr, eq-or-lt_of_le, arith, append_assoc, length}
+use Rattle.std.specs.List.{range_with_len}
 use Rattle.std.proofs.Common.{take, drop, slice_index_or, length-append}
 use Rattle.std.proofs.Math.Seq.{take-append_seam}
 use Rattle.std.proofs.lemmas.List.{map-append}
 use Rattle.std.proofs.lemmas.List.Concat.{flat_map-cons}
-use Rattle.sp_defs.specs.Partition.{part, from_one_to}
+use Rattle.sp_defs.specs.Partition.{part}
 use Rattle.sp_lists.proofs.Elements.{all_left, all_right, range_snoc}
 use Rattle.sp_partition.specs.Held.{IsHeld}
 use Rattle.sp_lists.proofs.Places.{rest-cons}

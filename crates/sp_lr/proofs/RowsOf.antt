@@ -8,11 +8,11 @@ use Rattle.sp_defs.specs.Partition.{part, IsPartition, degree}
 use Rattle.sp_lists.proofs.Elements.{all_map, map_all, all_every, le_or_lt}
 use Rattle.sp_lists.proofs.Places.{all_weaken}
 use Rattle.sp_lists.proofs.Occurrence.{Occurs}
-use Rattle.sp_lr_defs.specs.Strip.{first, gained, Covers, IsStrip, IsNext}
+use Rattle.sp_lr_defs.specs.Strip.{gained, IsNext}
 use Rattle.sp_lr_defs.proofs.Sums.{first-alike}
 use Rattle.sp_lr_defs.proofs.Strips.{strip_within}
 use Rattle.sp_lr_defs.proofs.Trimmed.{mapped_is, past_end, Descends, descends}
-use Rattle.sp_lr.specs.Strips.{rows_of, Falls, all_gained, strips_after, AreHeld, IsRoom}
+use Rattle.sp_lr.specs.Strips.{rows_of, Falls, all_gained, strips_after, AreHeld}
 use Rattle.sp_lr.specs.declared.strips.Row.{Row}
 use Rattle.sp_partition.specs.Held.{IsHeld}
 use Rattle.sp_lr.proofs.Rounds.{row_made}

@@ -1,6 +1,6 @@
 -- What the strips over some rows list: each way to go on that covers, once.
-use Rattle.std.proofs.Common.{◌≡◌, ◌≢◌, ℕ, zero, suc, ◌+◌, ◌-◌, ◌<◌, ◌≤◌, min, List, [], ◌∷◌, ◌++◌, map, flat_map, refl, sym}
-use Rattle.std.proofs.Common.{◌∙◌, ap, ap₂, subst, arith, length, slice_index, sum, ◌⊎◌, inl, inr, eqb-true, le_trans}
+use Rattle.std.proofs.Common.{◌≡◌, ◌≢◌, ℕ, zero, suc, ◌+◌, ◌-◌, ◌<◌, ◌≤◌, min, List, [], ◌∷◌, map, refl, sym}
+use Rattle.std.proofs.Common.{◌∙◌, ap, subst, arith, length, slice_index, sum, ◌⊎◌, inl, inr}
 use Rattle.std.specs.List.{AllByRecursion}
 use Rattle.std.proofs.lemmas.List.Sums.{sum_by-cons}
 use Rattle.sp_lists.proofs.Elements.{all_flat, all_map, le_or_lt}
@@ -12,7 +12,7 @@ use Rattle.sp_lr.specs.Strips.{strips, down, Falls, last_rows}
 use Rattle.sp_lr.specs.declared.strips.Row.{Row}
 use Rattle.sp_lr.proofs.InOrder.{down_all}
 use Rattle.sp_lr.proofs.LastRows.{last_rows-none, last_rows-zero, last_rows-one}
-use Rattle.sp_lr.proofs.Rounds.{block, blocks, end_of, strips-cons, strips-nil}
+use Rattle.sp_lr.proofs.Rounds.{block, end_of, strips-cons, strips-nil}
 
 -- the lengths of the rows
 abbrev pub lengths : List Row → List ℕ

@@ -1,8 +1,8 @@
 -- How many fillings there are, of all partitions and of each.
-use Rattle.std.proofs.Common.{◌≡◌, ◌≢◌, ℕ, zero, suc, ◌+◌, ◌*◌, ◌<◌, ◌≤◌, Bool, true, false, cond, List, [], ◌∷◌, ◌++◌, map}
+use Rattle.std.proofs.Common.{◌≡◌, ℕ, zero, suc, ◌+◌, ◌<◌, ◌≤◌, Bool, true, false, cond, List, [], ◌∷◌, map}
 use Rattle.std.proofs.Common.{filter, refl, sym, ◌∙◌, ap, ap₂, subst, arith, length, count_by, sum, replicate, nat_eq, Contains}
 use Rattle.std.proofs.Common.{◌⊎◌, inl, inr, Greater, Equal, Result, Err, true≢false, length-append, slice_index_or}
-use Rattle.std.specs.List.{AllByRecursion, range_with_len}
+use Rattle.std.specs.List.{AllByRecursion}
 use Rattle.std.specs.List.Sorted.{IsPermutation}
 use Rattle.std.specs.Cmp.Lexicographic.{pointwise}
 use Rattle.std.proofs.lemmas.Cmp.{tied_itself}
@@ -15,14 +15,14 @@ use Rattle.sp_lists.proofs.Elements.{all_filter, all_map}
 use Rattle.sp_lists.proofs.Places.{all_weaken}
 use Rattle.sp_lists.proofs.Occurrence.{Occurs, at_occurs, contains, occurs, occurs_filter, occurs_map, occurs_some}
 use Rattle.sp_partition.specs.OrderLaws.{order_total, equal_lists, lists_equal}
-use Rattle.sp_lr_defs.specs.Filling.{IsChain, IsChainTo, IsFilling, chain_of, member, IsLaterChain, DescendingChains, ListsEach}
+use Rattle.sp_lr_defs.specs.Filling.{IsChain, IsChainTo, IsFilling, chain_of, member, IsLaterChain, ListsEach}
 use Rattle.sp_lr_defs.specs.Strip.{AreStrips, IsStripChain, end_from}
 use Rattle.sp_lr_defs.proofs.Trimmed.{mapped_at}
 use Rattle.sp_lr_defs.proofs.Forward.{member_last}
 use Rattle.sp_lr_defs.proofs.Strips.{strips_of_filling}
 use Rattle.sp_lr_defs.proofs.Backward.{filling_of_strips, strips_length, end_at}
 use Rattle.sp_lr.specs.Strips.{chains}
-use Rattle.sp_lr.specs.Results.{AreMore, AreSoMany, IsProduct, DescendingPairs, spread}
+use Rattle.sp_lr.specs.Results.{AreMore, IsProduct, DescendingPairs, spread}
 use Rattle.sp_lr.proofs.InOrder.{InOrder, in_order-map, in_order-weaken}
 use Rattle.sp_lr.proofs.ChainLists.{all_chains, lists_fillings, listed_chains, chains_listed, chains_descend, descending}
 use Rattle.sp_lr.proofs.ChainLists.{later_chain_rest}

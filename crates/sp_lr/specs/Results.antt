@@ -1,10 +1,9 @@
 -- What the calls answer.
 use Rattle.std.specs.Prelude.{◌≡◌, ◌≢◌, ℕ, ◌-◌, ◌<◌, ◌≤◌, List, [], ◌∷◌, ◌++◌, map, length, replicate, slice_index_or}
 use Rattle.std.specs.List.{AllByRecursion, Contains}
-use Rattle.std.specs.declared.cmp.Ordering.{Ordering}
 use Rattle.std.specs.declared.cmp.Ordering.TheVariants.{Greater}
 use Rattle.sp_defs.specs.Partition.{order}
-use Rattle.sp_lr_defs.specs.Filling.{ListsEach, IsChain, IsChainTo}
+use Rattle.sp_lr_defs.specs.Filling.{ListsEach, IsChainTo}
 use Rattle.sp_lr.specs.declared.filling.Filling.{Filling}
 
 -- The chains of fillings.

@@ -1,18 +1,18 @@
 -- A chain of strips, each covered by the one before, is the chain of a filling.
-use Rattle.std.proofs.Common.{◌≡◌, ℕ, zero, suc, ◌+◌, ◌-◌, ◌<◌, ◌≤◌, Bool, true, false, cond, List, [], ◌∷◌, length, map}
-use Rattle.std.proofs.Common.{slice_index, slice_index_or, nat_eq, count_by, sum, refl, sym, ◌∙◌, ap, take}
-use Rattle.std.proofs.Common.{ap₂, subst, arith, le_trans, add-one, ◌⊎◌, inl, inr}
+use Rattle.std.proofs.Common.{◌≡◌, ℕ, zero, suc, ◌+◌, ◌-◌, ◌<◌, ◌≤◌, List, [], ◌∷◌, length, map}
+use Rattle.std.proofs.Common.{slice_index, slice_index_or, nat_eq, count_by, refl, sym, ◌∙◌, ap, take}
+use Rattle.std.proofs.Common.{subst, arith, add-one, ◌⊎◌, inl, inr}
 use Rattle.std.specs.List.{AllByRecursion, range_with_len}
 use Rattle.std.proofs.lemmas.List.{length-map}
-use Rattle.sp_defs.specs.Partition.{IsPartition, part, degree}
+use Rattle.sp_defs.specs.Partition.{IsPartition, part}
 use Rattle.sp_lists.proofs.Elements.{le_or_lt}
 use Rattle.sp_lists.proofs.Places.{all_at}
 use Rattle.sp_shapes.proofs.Diagram.{same_rows}
-use Rattle.sp_lr_defs.specs.Filling.{IsFilling, IsOutside, IsChainTo, row, number_in, member, chain_of, word, IsLattice}
-use Rattle.sp_lr_defs.specs.Strip.{first, gained, Covers, IsStrip, IsNext, AreStrips, IsStripChain, end_from}
+use Rattle.sp_lr_defs.specs.Filling.{IsFilling, IsOutside, IsChainTo, row, number_in, member, word, IsLattice}
+use Rattle.sp_lr_defs.specs.Strip.{first, gained, Covers, IsStrip, AreStrips, end_from}
 use Rattle.sp_lr_defs.proofs.Sorted.{Rises, rises_next, count_to, place_counted, counted_place}
-use Rattle.sp_lr_defs.proofs.Sums.{first-alike, first-zeros}
-use Rattle.sp_lr_defs.proofs.Trimmed.{mapped_at, mapped_past, past_end, mapped_is, descends}
+use Rattle.sp_lr_defs.proofs.Sums.{first-zeros}
+use Rattle.sp_lr_defs.proofs.Trimmed.{mapped_at, mapped_past, past_end, mapped_is}
 use Rattle.sp_lr_defs.proofs.Words.{Counted, word-all, fronts_hold}
 use Rattle.sp_lr_defs.proofs.Forward.{part_at, row_at, number_at, member_at, member_partition, reach}
 use Rattle.sp_lr_defs.proofs.Strips.{degree-gained, times}

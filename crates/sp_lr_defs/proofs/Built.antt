@@ -1,7 +1,7 @@
 -- The row of a filling whose numbers up to k reach to a given place, for each k.
-use Rattle.std.proofs.Common.{◌≡◌, ℕ, zero, suc, ◌+◌, ◌-◌, ◌<◌, ◌≤◌, Bool, true, false, cond, List, [], ◌∷◌, ◌++◌, length}
-use Rattle.std.proofs.Common.{slice_index, nat_le, nat_eq, count_by, replicate, refl, sym, ◌∙◌, ap, ap₂, subst, arith}
-use Rattle.std.proofs.Common.{add-one, ◌⊎◌, inl, inr, ne_eqb, length-append, add-zero}
+use Rattle.std.proofs.Common.{◌≡◌, ℕ, zero, suc, ◌+◌, ◌-◌, ◌<◌, ◌≤◌, false, List, [], ◌++◌, length}
+use Rattle.std.proofs.Common.{nat_le, nat_eq, count_by, replicate, ap, arith}
+use Rattle.std.proofs.Common.{add-one, ◌⊎◌, inl, inr, ne_eqb, length-append}
 use Rattle.std.specs.List.{AllByRecursion}
 use Rattle.std.proofs.lemmas.List.{length-replicate}
 use Rattle.sp_lists.proofs.Elements.{le_or_lt, all_append, count_zero}

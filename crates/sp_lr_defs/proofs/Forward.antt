@@ -1,19 +1,16 @@
 -- The chain of a filling is a chain of strips, each covered by the one before.
-use Rattle.std.proofs.Common.{◌≡◌, ℕ, zero, suc, ◌+◌, ◌-◌, ◌<◌, ◌≤◌, Bool, true, false, cond, List, [], ◌∷◌, length, map}
-use Rattle.std.proofs.Common.{filter, slice_index, slice_index_or, nat_lt, nat_le, nat_eq, count_by, sum, refl, sym, ◌∙◌, ap}
-use Rattle.std.proofs.Common.{ap₂, subst, arith, le_trans, add-one, ◌⊎◌, inl, inr, take}
-use Rattle.std.specs.List.{AllByRecursion, range_with_len}
-use Rattle.sp_defs.specs.Partition.{IsPartition, part, from_one_to, degree}
+use Rattle.std.proofs.Common.{◌≡◌, ℕ, suc, ◌+◌, ◌-◌, ◌<◌, ◌≤◌, List, [], length, map}
+use Rattle.std.proofs.Common.{slice_index, slice_index_or, nat_le, count_by, refl, sym, ◌∙◌, ap}
+use Rattle.std.proofs.Common.{ap₂, subst, arith, add-one, ◌⊎◌, inl, inr}
+use Rattle.std.specs.List.{AllByRecursion}
+use Rattle.sp_defs.specs.Partition.{IsPartition, part, from_one_to}
 use Rattle.sp_lists.proofs.Elements.{le_or_lt}
 use Rattle.sp_lists.proofs.Places.{all_places, all_weaken}
 use Rattle.sp_shapes.proofs.Diagram.{same_rows}
-use Rattle.sp_lr_defs.specs.Filling.{IsFilling, IsOutside, IsChainTo, row, number_in, member, chain_of, word}
-use Rattle.sp_lr_defs.specs.Strip.{first, gained, Covers, IsStrip, IsNext, AreStrips, IsStripChain}
+use Rattle.sp_lr_defs.specs.Filling.{IsFilling, IsOutside, row, number_in, member}
 use Rattle.sp_lr_defs.proofs.Sorted.{Rises, rises, count_to, count_one, count_le_length, place_counted, counted_place}
 use Rattle.sp_lr_defs.proofs.Sorted.{all_counted, none_counted}
-use Rattle.sp_lr_defs.proofs.Sums.{first-list, first-list_le, first-minus, first-alike, first-zeros}
 use Rattle.sp_lr_defs.proofs.Trimmed.{mapped_at, mapped_past, past_end, Descends, trimmed_at, trimmed_partition, descends}
-use Rattle.sp_lr_defs.proofs.Words.{Counted, word-all, sums_hold}
 
 -- ---- rows counted from 0
 

@@ -1,13 +1,13 @@
 -- Lists of numbers that increase weakly, and how many of their numbers are at most k.
-use Rattle.std.proofs.Common.{◌≡◌, ℕ, zero, suc, ◌+◌, ◌<◌, ◌≤◌, Bool, true, false, cond, List, [], ◌∷◌, ◌++◌, length}
-use Rattle.std.proofs.Common.{slice_index, count_by, nat_le, nat_eq, replicate, refl, sym, ◌∙◌, ap, ap₂, arith, le_trans}
-use Rattle.std.proofs.Common.{leb-true, leb-false, ◌⊎◌, inl, inr, eqb-true, eq-eqb, ne_eqb}
+use Rattle.std.proofs.Common.{◌≡◌, ℕ, zero, suc, ◌+◌, ◌<◌, ◌≤◌, false, cond, List, [], ◌∷◌, ◌++◌, length}
+use Rattle.std.proofs.Common.{slice_index, count_by, nat_le, nat_eq, replicate, refl, ◌∙◌, ap, arith, le_trans}
+use Rattle.std.proofs.Common.{◌⊎◌, inl, inr}
 use Rattle.std.proofs.lemmas.Bool.{le-leb}
 use Rattle.std.proofs.lemmas.Bool.Decides.{nat_tests}
 use Rattle.std.specs.List.{AllByRecursion}
 use Rattle.sp_lists.proofs.Counts.{count-cons}
-use Rattle.sp_lists.proofs.Elements.{all_append, count_zero, le_or_lt}
-use Rattle.sp_lists.proofs.Places.{all_weaken, all_places, all_at}
+use Rattle.sp_lists.proofs.Elements.{all_append, le_or_lt}
+use Rattle.sp_lists.proofs.Places.{all_weaken, all_at}
 
 -- each number is at most all that follow it
 abbrev pub Rises : List ℕ → Type 0

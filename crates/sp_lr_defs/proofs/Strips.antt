@@ -1,16 +1,16 @@
 -- The members of the chain of a filling make strips, each covered by the one before.
-use Rattle.std.proofs.Common.{◌≡◌, ℕ, zero, suc, ◌+◌, ◌-◌, ◌<◌, ◌≤◌, Bool, true, false, cond, List, [], ◌∷◌, length, map}
-use Rattle.std.proofs.Common.{filter, slice_index, slice_index_or, nat_eq, count_by, sum, refl, sym, ◌∙◌, ap, take}
-use Rattle.std.proofs.Common.{ap₂, subst, arith, le_trans, add-one}
+use Rattle.std.proofs.Common.{◌≡◌, ℕ, zero, suc, ◌+◌, ◌<◌, ◌≤◌, List, [], ◌∷◌, length, map}
+use Rattle.std.proofs.Common.{slice_index, slice_index_or, nat_eq, count_by, refl, sym, ◌∙◌, ap, take}
+use Rattle.std.proofs.Common.{subst, arith, add-one}
 use Rattle.std.specs.List.{AllByRecursion, range_with_len}
 use Rattle.sp_defs.specs.Partition.{IsPartition, part, degree}
 use Rattle.sp_lists.proofs.Places.{all_places}
-use Rattle.sp_lr_defs.specs.Filling.{IsFilling, IsChainTo, member, chain_of, word}
+use Rattle.sp_lr_defs.specs.Filling.{IsFilling, member, chain_of, word}
 use Rattle.sp_lr_defs.specs.Strip.{first, gained, Covers, IsStrip, IsNext, AreStrips, IsStripChain}
-use Rattle.sp_lr_defs.proofs.Sorted.{Rises, count_to, count_one}
-use Rattle.sp_lr_defs.proofs.Sums.{first-list, first-list_le, first-minus, first-alike, first-zeros}
-use Rattle.sp_lr_defs.proofs.Words.{Counted, word-all, sums_hold}
-use Rattle.sp_lr_defs.proofs.Forward.{member_at, member_partition, member_first, apart_at, row_rises, reach, part_at}
+use Rattle.sp_lr_defs.proofs.Sorted.{Rises, count_one}
+use Rattle.sp_lr_defs.proofs.Sums.{first-list, first-minus, first-alike}
+use Rattle.sp_lr_defs.proofs.Words.{word-all, sums_hold}
+use Rattle.sp_lr_defs.proofs.Forward.{member_at, member_partition, member_first, apart_at, row_rises, part_at}
 
 -- ---- what a strip gains
 
@@ -95,7 +95,7 @@ past_rows P rows f = all_places P rows [] (λ i lt. f i)
 -- a strip of the chain is covered by the one before
 pub member_covers : (lambda mu nu : List ℕ) (rows : List (List ℕ)) → IsPartition lambda → IsFilling lambda mu nu rows →
     (k : ℕ) → Covers 0 (gained (member lambda rows k) (member lambda rows (k + 1)))
-        (gained (member lambda rows (k + 1)) (member lambda rows (k + 1 + 1)))
+    (gained (member lambda rows (k + 1)) (member lambda rows (k + 1 + 1)))
 member_covers lambda mu nu rows hl h k i =
     omega (
       arith,

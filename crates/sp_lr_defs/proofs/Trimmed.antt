@@ -1,8 +1,8 @@
 -- Lists of numbers that decrease weakly, without the zeros at their end; and lists that a function makes of a range.
-use Rattle.std.proofs.Common.{◌≡◌, ℕ, zero, suc, ◌+◌, ◌-◌, ◌<◌, ◌≤◌, Bool, true, false, cond, List, [], ◌∷◌, length, map}
-use Rattle.std.proofs.Common.{filter, slice_index, slice_index_or, nat_lt, refl, sym, ◌∙◌, ap, ap₂, subst, arith, le_trans}
+use Rattle.std.proofs.Common.{◌≡◌, ℕ, zero, suc, ◌+◌, ◌<◌, ◌≤◌, Bool, true, false, cond, List, [], ◌∷◌, length, map}
+use Rattle.std.proofs.Common.{filter, slice_index, slice_index_or, nat_lt, refl, ◌∙◌, ap, ap₂, arith, le_trans}
 use Rattle.std.proofs.Common.{ltb-true, ltb-false, add-one}
-use Rattle.std.specs.List.{AllByRecursion, range_with_len}
+use Rattle.std.specs.List.{range_with_len}
 use Rattle.std.proofs.lemmas.List.Elements.{All-from_recursion}
 use Rattle.sp_defs.specs.Partition.{IsPartition}
 use Rattle.sp_lists.proofs.Elements.{all_filter, all_every}

@@ -1,10 +1,10 @@
 -- The word of rows that increase is a lattice word where, for each k, the numbers k in the rows before any row are at
 -- least as many as the numbers k + 1 up to it.
-use Rattle.std.proofs.Common.{◌≡◌, ℕ, zero, suc, ◌+◌, ◌-◌, ◌<◌, ◌≤◌, Bool, true, false, cond, List, [], ◌∷◌, ◌++◌, length}
-use Rattle.std.proofs.Common.{slice_index_or, count_by, nat_eq, reverse, take, flat_map, refl, sym, ◌∙◌, ap, ap₂, arith}
-use Rattle.std.proofs.Common.{subst, ◌⊎◌, inl, inr, le_trans, eqb-true, eq-eqb, ne_eqb, length-append}
+use Rattle.std.proofs.Common.{◌≡◌, ℕ, zero, suc, ◌+◌, ◌-◌, ◌<◌, ◌≤◌, Bool, false, cond, List, [], ◌∷◌, ◌++◌, length}
+use Rattle.std.proofs.Common.{slice_index_or, count_by, nat_eq, reverse, take, refl, sym, ◌∙◌, ap, ap₂, arith}
+use Rattle.std.proofs.Common.{subst, ◌⊎◌, inl, inr, ne_eqb}
 use Rattle.std.specs.List.{AllByRecursion}
-use Rattle.std.proofs.Math.Seq.{take-append-add, take-length}
+use Rattle.std.proofs.Math.Seq.{take-append-add}
 use Rattle.std.proofs.lemmas.List.{take-append-le, length-reverse, reverse-append}
 use Rattle.std.proofs.lemmas.List.Concat.{flat_map-cons}
 use Rattle.std.proofs.lemmas.List.Sums.{sum_by-append, sum_by-take-le}
@@ -98,10 +98,10 @@ fronts_hold p q (row ∷ rows) a b u v ha hb sums n =
     settle (inr h) ih =
         let is : length row + (n - length row) ≡ n = omega arith in
         let front_q : count_by q (take n (word (row ∷ rows)))
-            ≡ count_by q row + count_by q (take (n - length row) (word rows)) =
+        ≡ count_by q row + count_by q (take (n - length row) (word rows)) =
         ap (λ m. count_by q (take m (word (row ∷ rows)))) (sym is) ∙ word-count q row rows (n - length row) in
         let front_p : count_by p (take n (word (row ∷ rows)))
-            ≡ count_by p row + count_by p (take (n - length row) (word rows)) =
+        ≡ count_by p row + count_by p (take (n - length row) (word rows)) =
         ap (λ m. count_by p (take m (word (row ∷ rows)))) (sym is) ∙ word-count p row rows (n - length row) in
         omega (arith, ih, ha 0, hb 0)
 

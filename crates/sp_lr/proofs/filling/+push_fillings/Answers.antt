@@ -1,10 +1,10 @@
-use Rattle.std.proofs.Common.{rules, ◌≡◌, ◌+◌, ◌-◌, ◌≤◌, ◌<◌, ◌++◌, ◌∷◌, [], arith, subst, sym, ◌∙◌, ap, ap₂, length, slice_index}
-use Rattle.std.proofs.Common.{take, flat_map, append-nil, List, ℕ, vec_len}
+use Rattle.std.proofs.Common.{rules, ◌≡◌, ◌+◌, ◌-◌, ◌≤◌, ◌<◌, ◌++◌, ◌∷◌, [], arith, subst, sym, ◌∙◌, ap, length, slice_index}
+use Rattle.std.proofs.Common.{take, flat_map, append-nil, vec_len}
 use Rattle.std.proofs.Math.Seq.{take-length}
 use Rattle.std.proofs.lemmas.List.{length-map}
 use Rattle.std.proofs.lemmas.Result.{err_from_is_err_and}
 use Rattle.sp_lr_defs.specs.Strip.{IsNext}
-use Rattle.sp_lr.specs.Strips.{behind, chains, strips_after, IsRoom}
+use Rattle.sp_lr.specs.Strips.{behind}
 use Rattle.sp_lr.specs.Results.{chains_in}
 use Rattle.sp_lr.proofs.ChainLists.{chain_block}
 use Rattle.sp_lr.proofs.Rounds.{without_last}

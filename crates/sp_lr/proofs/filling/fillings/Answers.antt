@@ -1,10 +1,9 @@
-use Rattle.std.proofs.Common.{rules, ◌≡◌, ◌+◌, ◌≤◌, ◌<◌, ◌++◌, ◌∷◌, [], arith, subst, sym, ◌∙◌, ap, ap₂, length, map}
-use Rattle.std.proofs.lemmas.List.{length-map}
+use Rattle.std.proofs.Common.{◌+◌, ◌<◌, ◌++◌, ◌∷◌, [], arith, subst, sym, ◌∙◌, ap, ap₂, length}
 use Rattle.std.proofs.lemmas.Result.{err_from_is_err_and}
 use Rattle.sp_lr_defs.specs.Filling.{ListsEach, IsChain}
 use Rattle.sp_lr.specs.Strips.{behind, chains}
-use Rattle.sp_lr.specs.Results.{chains_in, AreMore}
-use Rattle.sp_lr.proofs.ChainLists.{all_chains, lists_fillings}
+use Rattle.sp_lr.specs.Results.{chains_in}
+use Rattle.sp_lr.proofs.ChainLists.{lists_fillings}
 use Rattle.sp_lr.proofs.Totals.{are_more, err_same}
 use Rattle.sp_lr.proofs.filling.fillings.Goals as goal
 

@@ -1,9 +1,8 @@
-use Rattle.std.proofs.Common.{rules, ◌≡◌, ◌+◌, ◌-◌, ◌≤◌, ◌<◌, ◌++◌, ◌∷◌, [], arith, subst, sym, ◌∙◌, ap, ap₂, length, slice_index}
-use Rattle.std.proofs.Common.{take, flat_map, map, List, ℕ}
+use Rattle.std.proofs.Common.{rules, ◌≡◌, ◌+◌, ◌≤◌, ◌<◌, ◌++◌, arith, subst, sym, ◌∙◌, ap, length, slice_index}
+use Rattle.std.proofs.Common.{take, flat_map, map}
 use Rattle.std.proofs.Math.Seq.{take-length}
 use Rattle.std.proofs.lemmas.Result.{err_from_is_err_and}
 use Rattle.sp_lr_defs.specs.Strip.{IsNext, end_from}
-use Rattle.sp_lr.specs.Strips.{behind, chains, strips_after, IsRoom}
 use Rattle.sp_lr.proofs.ChainLists.{chain_block}
 use Rattle.sp_lr.proofs.Continuing.{later, chains_split, chains_done, next_at, room_at, ends_more, more_on_the_way}
 use Rattle.sp_lr.proofs.Continuing.{ends_count}

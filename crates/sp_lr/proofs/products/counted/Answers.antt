@@ -1,6 +1,4 @@
-use Rattle.std.proofs.Common.{◌≡◌, ◌+◌, ◌-◌, ◌++◌, ◌∷◌, [], arith, subst, sym, ◌∙◌, ap, ap₂, suc, ℕ, slice_index_or, length, ◌<◌}
-use Rattle.std.proofs.lemmas.Grind.{common_steps}
-use Rattle.sp_lr.specs.Results.{IsFirst}
+use Rattle.std.proofs.Common.{◌≡◌, ◌+◌, ◌-◌, ◌++◌, ◌∷◌, [], arith, subst, ◌∙◌, ap, suc, length, ◌<◌}
 use Rattle.sp_lr.proofs.Groups.{AreCounted, count_on, count_ends, same_before, same_member}
 use Rattle.sp_lr.proofs.products.counted.Goals as goal
 

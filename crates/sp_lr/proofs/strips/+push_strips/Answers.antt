@@ -1,4 +1,4 @@
-use Rattle.std.proofs.Common.{rules, ◌≡◌, ◌+◌, ◌++◌, ◌∷◌, [], arith, subst, sym, ◌∙◌, ap, min, ℕ, suc, ◌-◌, ◌≤◌, length, length-append}
+use Rattle.std.proofs.Common.{rules, ◌≡◌, ◌+◌, ◌++◌, ◌∷◌, [], arith, subst, sym, ◌∙◌, ap, ℕ, suc, ◌-◌, ◌≤◌, length, length-append}
 use Rattle.std.proofs.lemmas.Result.{on_ok_weaker}
 use Rattle.sp_lr.specs.Strips.{behind, AreHeld, strips}
 use Rattle.sp_lr.proofs.Rounds.{head, rest, split_rows, falls_split, gained_split, strips_split, strips-nil, strips-cons}

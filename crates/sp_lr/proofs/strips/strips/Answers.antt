@@ -1,6 +1,5 @@
-use Rattle.std.proofs.Common.{rules, ◌≡◌, ◌+◌, ◌++◌, List, [], arith, subst, sym, ◌∙◌, ap, ap₂}
-use Rattle.sp_defs.specs.Partition.{part}
-use Rattle.sp_lr.specs.Strips.{strips, rows_of, Falls, all_gained, AreHeld, behind, strips_after}
+use Rattle.std.proofs.Common.{◌+◌, ◌++◌, [], arith, subst, sym, ◌∙◌, ap, ap₂}
+use Rattle.sp_lr.specs.Strips.{strips, Falls, all_gained, AreHeld, behind}
 use Rattle.sp_lr.proofs.Rounds.{behind-nil}
 use Rattle.sp_lr.proofs.RowsOf.{rows_fall, rows_gained, listed_held}
 use Rattle.sp_lr.proofs.strips.strips.Goals as goal
