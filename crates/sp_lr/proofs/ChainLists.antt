@@ -71,7 +71,6 @@ strips_descend (row ∷ rows) above spare left =
 
 -- ---- chains
 
-
 -- those that go on by each partition of a strip
 abbrev pub chain_block : List ℕ → List ℕ → List ℕ → List (List (List ℕ))
 chain_block last ns shape = map (λ shapes. shape ∷ shapes) (chains last shape 0 ns)

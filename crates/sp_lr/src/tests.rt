@@ -7,7 +7,9 @@ use std::alloc::Global;
 use std::process::Abort;
 use std::test::Fail;
 
-fn two_one() -> Partition {
+fn two_one() -> Partition
+    ensures { degree_of result ≤ 3 }
+{
     Partition::from_parts(&[2, 1]).unwrap_or_default()
 }
 

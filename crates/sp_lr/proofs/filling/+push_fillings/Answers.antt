@@ -48,8 +48,8 @@ returns-in_err-push_fillings-in-len1-up-clause-many t c =
     let some : 1 ≤ length c.args.sizes.now = omega arith in
     let within : c.loop-shape.shape-index < length c.deref-shape-items.result.now = omega arith in
     let so_far : length c.loop-shape.found.items ≡ length c.args.found.now.items
-        + length (flat_map (chain_block c.args.last.now (later c.args.sizes.now))
-        (take c.loop-shape.shape-index c.deref-shape-items.result.now)) =
+    + length (flat_map (chain_block c.args.last.now (later c.args.sizes.now))
+    (take c.loop-shape.shape-index c.deref-shape-items.result.now)) =
     sym (length-map c.loop-shape.found.items (λ f. f.chain))
     ∙ found_count (chains_in c.args.found.now.items) (chains_in c.loop-shape.found.items) c.args.chain.now.items
     (flat_map (chain_block c.args.last.now (later c.args.sizes.now))

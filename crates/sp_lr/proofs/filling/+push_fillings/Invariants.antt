@@ -13,6 +13,6 @@ invariant-loop-shape l = record {
   chain : l.chain.items ≡ l.fn.chain.items;
   found : chains_in l.found.items
       ≡ chains_in l.fn.found.items
-          ++ behind l.fn.chain.items (flat_map (chain_block l.last l.later) (take l.shape-index l.shape-items));
+      ++ behind l.fn.chain.items (flat_map (chain_block l.last l.later) (take l.shape-index l.shape-items));
   few : length l.found.items ≤ l.most;
 }

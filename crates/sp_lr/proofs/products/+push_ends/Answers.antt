@@ -43,8 +43,8 @@ returns-in_err-push_ends-in-len1-up-clause-many t c =
     let some : 1 ≤ length c.args.sizes.now = omega arith in
     let within : c.loop-shape.shape-index < length c.deref-shape-items.result.now = omega arith in
     let so_far : length c.loop-shape.ends.items ≡ length c.args.ends.now.items
-        + length (flat_map (chain_block c.args.last.now (later c.args.sizes.now))
-        (take c.loop-shape.shape-index c.deref-shape-items.result.now)) =
+    + length (flat_map (chain_block c.args.last.now (later c.args.sizes.now))
+    (take c.loop-shape.shape-index c.deref-shape-items.result.now)) =
     ends_count c.args.ends.now.items c.loop-shape.ends.items (end_from c.args.last.now)
     (flat_map (chain_block c.args.last.now (later c.args.sizes.now))
     (take c.loop-shape.shape-index c.deref-shape-items.result.now)) c.loop-shape.invariant.ends in

@@ -19,7 +19,7 @@ returns-in_err-push_ends-clause-many c =
 pub returns-clause-pairs : goal.returns-clause-pairs
 returns-clause-pairs c =
     let ends : c.push_ends.new.ends.items
-        ≡ map (end_from c.args.lambda.now) (chains c.args.lambda.now c.args.lambda.now (part c.args.mu.now 1) c.args.mu.now) =
+    ≡ map (end_from c.args.lambda.now) (chains c.args.lambda.now c.args.lambda.now (part c.args.mu.now 1) c.args.mu.now) =
     c.in_ok-push_ends.ensures.ends
     ∙ ap (λ xs. xs ++ map (end_from c.args.lambda.now) (chains c.args.lambda.now c.args.lambda.now c.part.result
     c.parts.result.now)) c.new-ends.ensures.items
