@@ -1,6 +1,7 @@
 -- One round over the partitions that a strip makes: what it appends, and what is left of the room.
 use Rattle.std.proofs.Common.{◌≡◌, ℕ, ◌+◌, ◌-◌, ◌<◌, ◌≤◌, List, [], ◌∷◌, ◌++◌, map, flat_map, refl, sym, ◌∙◌, take}
-use Rattle.std.proofs.Common.{drop, ap, ap₂, subst, arith, length, slice_index, slice_index_or, sum, append_assoc, append-nil}
+use Rattle.std.proofs.Common.{drop, ap, ap₂, subst, arith, length, slice_index, slice_index_or, sum, append_assoc}
+use Rattle.std.proofs.Common.{append-nil}
 use Rattle.std.proofs.Common.{length-append}
 use Rattle.std.specs.List.{AllByRecursion}
 use Rattle.std.proofs.lemmas.List.{take_more, map-append, length-map}
@@ -30,7 +31,8 @@ pub chains_split : (before last : List ℕ) (spare : ℕ) (sizes : List ℕ) →
     chains before last spare sizes
     ≡ flat_map (chain_block last (later sizes)) (strips_after before last spare (slice_index sizes 0))
 chains_split before last spare sizes h =
-    ap (chains before last spare) (split_sizes sizes h) ∙ chains-cons before last spare (slice_index sizes 0) (later sizes)
+    ap (chains before last spare) (split_sizes sizes h) ∙ chains-cons before last spare (slice_index sizes 0)
+        (later sizes)
 
 -- with no size there is nothing to add
 pub chains_done : (before last : List ℕ) (spare : ℕ) (sizes : List ℕ) → length sizes < 1 →
@@ -41,7 +43,8 @@ chains_done before last spare (size ∷ sizes) h = absurd (omega arith)
 -- ---- one partition of the strip
 
 -- the partition at a place of the list
-pub next_at : (before last : List ℕ) (spare n : ℕ) (shapes : List (List ℕ)) (i : ℕ) (shape : List ℕ) → IsPartition last →
+pub next_at : (before last : List ℕ) (spare n : ℕ) (shapes : List (List ℕ)) (i : ℕ) (shape : List ℕ) →
+    IsPartition last →
     shapes ≡ strips_after before last spare n → i < length shapes → shape ≡ slice_index_or shapes i shape →
     IsNext before last spare n shape
 next_at before last spare n shapes i shape h listed lt at =

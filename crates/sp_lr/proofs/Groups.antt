@@ -1,6 +1,8 @@
 -- Equal members of an ascending list, counted from its end.
-use Rattle.std.proofs.Common.{◌≡◌, ◌≢◌, ℕ, zero, suc, ◌+◌, ◌-◌, ◌<◌, ◌≤◌, Bool, true, false, List, [], ◌∷◌, ◌++◌, refl, sym}
-use Rattle.std.proofs.Common.{◌∙◌, ap, ap₂, subst, arith, length, slice_index_or, replicate, take, append_assoc, append-nil}
+use Rattle.std.proofs.Common.{◌≡◌, ◌≢◌, ℕ, zero, suc, ◌+◌, ◌-◌, ◌<◌, ◌≤◌, Bool, true, false, List, [], ◌∷◌, ◌++◌}
+use Rattle.std.proofs.Common.{refl, sym}
+use Rattle.std.proofs.Common.{◌∙◌, ap, ap₂, subst, arith, length, slice_index_or, replicate, take, append_assoc}
+use Rattle.std.proofs.Common.{append-nil}
 use Rattle.std.proofs.Common.{Less, Equal, Greater, Ordering, add-one, IsTrue, ◌↔◌, ◌⊎◌, inl, inr, nat_eq}
 use Rattle.std.specs.List.{AllByRecursion}
 use Rattle.std.specs.List.Sorted.{IsSorted}
@@ -85,7 +87,8 @@ rises_at ends j sorted lt pos ne =
     next = omega arith
 
     not_later : is_lt (order (at ends j) (at ends (j - 1))) ≡ false
-    not_later = ap (λ i. is_lt (order (at ends i) (at ends (j - 1)))) (sym next) ∙ sorted (j - 1) [] (omega arith) (omega arith)
+    not_later = ap (λ i. is_lt (order (at ends i) (at ends (j - 1)))) (sym next)
+        ∙ sorted (j - 1) [] (omega arith) (omega arith)
 
     settle : (o : Ordering) → order (at ends (j - 1)) (at ends j) ≡ o → order (at ends (j - 1)) (at ends j) ≡ Less
     settle Less e = e
@@ -100,7 +103,8 @@ rises_at ends j sorted lt pos ne =
 
 -- where it is another, the count makes a pair
 pub count_ends : (ends : List (List ℕ)) (j count : ℕ) (pairs new : List (List ℕ × ℕ)) → IsSorted order ends →
-    j < length ends → IsFirst ends j → new ≡ pairs ++ (at ends j, count + 1) ∷ [] → AreCounted ends (suc j) count pairs →
+    j < length ends → IsFirst ends j → new ≡ pairs ++ (at ends j, count + 1) ∷ [] →
+        AreCounted ends (suc j) count pairs →
     AreCounted ends j 0 new
 count_ends ends j count pairs new sorted lt is_first more h = subst (AreCounted ends j 0) (sym more) (record {
   whole =
@@ -148,10 +152,12 @@ count_all ends i count pairs z h =
 -- ---- what the code tells
 
 -- a member that the code reads
-pub same_member : (ends : List (List ℕ)) (j : ℕ) (x : List ℕ) → j < length ends → x ≡ slice_index_or ends j x → x ≡ at ends j
+pub same_member : (ends : List (List ℕ)) (j : ℕ) (x : List ℕ) → j < length ends → x ≡ slice_index_or ends j x →
+    x ≡ at ends j
 same_member ends j x lt e = e ∙ fallback ends j x [] lt
   where
-    fallback : (xs : List (List ℕ)) (i : ℕ) (x y : List ℕ) → i < length xs → slice_index_or xs i x ≡ slice_index_or xs i y
+    fallback : (xs : List (List ℕ)) (i : ℕ) (x y : List ℕ) → i < length xs →
+        slice_index_or xs i x ≡ slice_index_or xs i y
     fallback [] i x y lt = absurd (omega arith)
     fallback (z ∷ xs) zero x y lt = refl
     fallback (z ∷ xs) (suc i) x y lt = fallback xs i x y (omega arith)

@@ -1,5 +1,6 @@
 -- Rounds over the numbers of nodes that a row may gain, from the most down.
-use Rattle.std.proofs.Common.{◌≡◌, ℕ, zero, suc, ◌+◌, ◌-◌, ◌<◌, ◌≤◌, min, List, [], ◌∷◌, ◌++◌, map, flat_map, refl, sym, ◌∙◌}
+use Rattle.std.proofs.Common.{◌≡◌, ℕ, zero, suc, ◌+◌, ◌-◌, ◌<◌, ◌≤◌, min, List, [], ◌∷◌, ◌++◌, map, flat_map, refl}
+use Rattle.std.proofs.Common.{sym, ◌∙◌}
 use Rattle.std.proofs.Common.{ap, ap₂, subst, ◌⊎◌, inl, inr, eq-or-lt_of_le, arith, append_assoc, length}
 use Rattle.std.specs.List.{range_with_len}
 use Rattle.std.proofs.Common.{take, drop, slice_index_or, length-append}
@@ -37,7 +38,8 @@ strips-cons row rows above spare left = refl
 pub behind-cons : {X : Type 0} (front : List X) (x : X) (tails : List (List X)) →
     behind front (map (λ below. x ∷ below) tails) ≡ behind (front ++ x ∷ []) tails
 behind-cons front x [] = refl
-behind-cons front x (tail ∷ tails) = ap₂ (λ t ts. t ∷ ts) (sym (append_assoc front (x ∷ []) tail)) (behind-cons front x tails)
+behind-cons front x (tail ∷ tails) = ap₂ (λ t ts. t ∷ ts) (sym (append_assoc front (x ∷ []) tail))
+    (behind-cons front x tails)
 
 -- behind nothing
 pub behind-nil : {X : Type 0} (tails : List (List X)) → behind [] tails ≡ tails
@@ -45,7 +47,8 @@ behind-nil [] = refl
 behind-nil (tail ∷ tails) = ap (λ ts. tail ∷ ts) (behind-nil tails)
 
 -- behind two lists joined
-pub behind-append : {X : Type 0} (front : List X) (xs ys : List (List X)) → behind front (xs ++ ys) ≡ behind front xs ++ behind front ys
+pub behind-append : {X : Type 0} (front : List X) (xs ys : List (List X)) →
+    behind front (xs ++ ys) ≡ behind front xs ++ behind front ys
 behind-append front xs ys = map-append (λ tail. front ++ tail) xs ys
 
 -- one round of the loop
@@ -56,8 +59,10 @@ pub round : (before after all : List (List ℕ)) (front grown : List ℕ) (row :
     after ++ behind front (blocks row rows spare left more) ≡ all
 round before after all front grown row rows spare left more grows is so_far =
     ap (λ xs. xs ++ behind front (blocks row rows spare left more))
-    (is ∙ ap (λ xs. before ++ behind xs tails) grows ∙ ap (λ xs. before ++ xs) (sym (behind-cons front (row.length + more) tails)))
-    ∙ append_assoc before (behind front (block row rows spare left more)) (behind front (blocks row rows spare left more))
+    (is ∙ ap (λ xs. before ++ behind xs tails) grows ∙ ap (λ xs. before ++ xs) (sym (behind-cons front (row.length
+        + more) tails)))
+    ∙ append_assoc before (behind front (block row rows spare left more)) (behind front
+        (blocks row rows spare left more))
     ∙ ap (λ xs. before ++ xs)
     (sym (behind-append front (block row rows spare left more) (blocks row rows spare left more))
     ∙ ap (behind front) (sym (flat_map-cons (block row rows spare left) more (down more))))
@@ -159,7 +164,8 @@ strips-nil [] above spare left most h e = ap (λ m. last_rows m left) (sym e)
 strips-nil (row ∷ rows) above spare left most h e = absurd (omega arith)
 
 -- a list that lost its last member
-pub without_last : {X : Type 0} (all front left : List X) (x : X) → all ≡ front ++ x ∷ [] → left ≡ take (length all - 1) all → left ≡ front
+pub without_last : {X : Type 0} (all front left : List X) (x : X) → all ≡ front ++ x ∷ [] →
+    left ≡ take (length all - 1) all → left ≡ front
 without_last all front left x is taken =
     taken
     ∙ ap (λ xs. take (length xs - 1) xs) is

@@ -1,5 +1,6 @@
 -- The rows of a partition, and the strips over them: what is listed is each next member of a chain of strips.
-use Rattle.std.proofs.Common.{◌≡◌, ℕ, zero, suc, ◌+◌, ◌-◌, ◌<◌, ◌≤◌, List, [], ◌∷◌, map, refl, sym, ◌∙◌, ap, ap₂, subst, arith}
+use Rattle.std.proofs.Common.{◌≡◌, ℕ, zero, suc, ◌+◌, ◌-◌, ◌<◌, ◌≤◌, List, [], ◌∷◌, map, refl, sym, ◌∙◌, ap, ap₂}
+use Rattle.std.proofs.Common.{subst, arith}
 use Rattle.std.proofs.Common.{length, slice_index, sum, ◌⊎◌, inl, inr, add-one, le_trans}
 use Rattle.std.specs.List.{AllByRecursion, range_with_len}
 use Rattle.std.proofs.lemmas.List.Elements.{All-from_recursion, recursion_from_All}
@@ -18,7 +19,8 @@ use Rattle.sp_partition.specs.Held.{IsHeld}
 use Rattle.sp_lr.proofs.Rounds.{row_made}
 use Rattle.sp_lr.proofs.Tails.{lengths, got, IsTail, AreRows, listed_tails, tails_listed}
 
-lengths-made : (before last : List ℕ) (rs : List ℕ) → lengths (map (row_made before last) rs) ≡ map (λ r. part last r) rs
+lengths-made : (before last : List ℕ) (rs : List ℕ) → lengths (map (row_made before last) rs)
+    ≡ map (λ r. part last r) rs
 lengths-made before last [] = refl
 lengths-made before last (r ∷ rs) = ap (λ xs. part last r ∷ xs) (lengths-made before last rs)
 
@@ -67,7 +69,8 @@ pub rows_fall : (before last : List ℕ) (above : ℕ) → IsPartition last → 
     Falls above (rows_of before last)
 rows_fall before last above h top =
     let is : lengths (rows_of before last) ≡ last = lengths-rows before last in
-    falls_of above (rows_of before last) (subst (λ xs. slice_index xs 0 ≤ above) (sym is) (subst (λ x. x ≤ above) refl top))
+    falls_of above (rows_of before last) (subst (λ xs. slice_index xs 0 ≤ above) (sym is) (subst
+        (λ x. x ≤ above) refl top))
     (subst Descends (sym is) (descends last h))
 
 -- each row has a node
@@ -77,7 +80,8 @@ rows_positive before last h =
     (subst (AllByRecursion (λ p. 0 < p)) (sym (lengths-rows before last))
     (recursion_from_All (λ p. 0 < p) last h.positive))
 
-gained_of : (rows : List Row) → AllByRecursion (λ row. row.gained ≤ row.length) rows → all_gained rows ≤ sum (lengths rows)
+gained_of : (rows : List Row) → AllByRecursion (λ row. row.gained ≤ row.length) rows →
+    all_gained rows ≤ sum (lengths rows)
 gained_of [] h = omega arith
 gained_of (row ∷ rows) (h, hs) = omega (arith, h, gained_of rows hs, sum_by-cons (λ x. x) row.length (lengths rows))
 

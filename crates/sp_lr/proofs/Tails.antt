@@ -49,7 +49,8 @@ tail_nothing above spare left e = record {
   positive = tt;
 }
 
-tail_new : (above spare left : ℕ) → left ≤ min (min left spare) above → left ≢ 0 → IsTail [] above spare left (left ∷ [])
+tail_new : (above spare left : ℕ) → left ≤ min (min left spare) above → left ≢ 0 →
+    IsTail [] above spare left (left ∷ [])
 tail_new above spare left h e = record {
   grows = grows;
   top = omega arith;

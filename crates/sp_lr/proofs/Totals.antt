@@ -1,6 +1,7 @@
 -- How many fillings there are, of all partitions and of each.
 use Rattle.std.proofs.Common.{◌≡◌, ℕ, zero, suc, ◌+◌, ◌<◌, ◌≤◌, Bool, true, false, cond, List, [], ◌∷◌, map}
-use Rattle.std.proofs.Common.{filter, refl, sym, ◌∙◌, ap, ap₂, subst, arith, length, count_by, sum, replicate, nat_eq, Contains}
+use Rattle.std.proofs.Common.{filter, refl, sym, ◌∙◌, ap, ap₂, subst, arith, length, count_by, sum, replicate, nat_eq}
+use Rattle.std.proofs.Common.{Contains}
 use Rattle.std.proofs.Common.{◌⊎◌, inl, inr, Greater, Equal, Result, Err, true≢false, length-append, slice_index_or}
 use Rattle.std.specs.List.{AllByRecursion}
 use Rattle.std.specs.List.Sorted.{IsPermutation}
@@ -24,7 +25,8 @@ use Rattle.sp_lr_defs.proofs.Backward.{filling_of_strips, strips_length, end_at}
 use Rattle.sp_lr.specs.Strips.{chains}
 use Rattle.sp_lr.specs.Results.{AreMore, IsProduct, DescendingPairs, spread}
 use Rattle.sp_lr.proofs.InOrder.{InOrder, in_order-map, in_order-weaken}
-use Rattle.sp_lr.proofs.ChainLists.{all_chains, lists_fillings, listed_chains, chains_listed, chains_descend, descending}
+use Rattle.sp_lr.proofs.ChainLists.{all_chains, lists_fillings, listed_chains, chains_listed, chains_descend}
+use Rattle.sp_lr.proofs.ChainLists.{descending}
 use Rattle.sp_lr.proofs.ChainLists.{later_chain_rest}
 
 -- there are more fillings than `most` where the list of chains is longer
@@ -58,7 +60,8 @@ abbrev pub ending : List ℕ → List ℕ → List ℕ → List (List (List ℕ)
 ending lambda mu nu =
     filter (λ shapes. is_it nu (end_from lambda shapes)) (chains lambda lambda (part mu 1) mu)
 
-in_order-filter : {X : Type 0} (R : X → X → Type 0) (t : X → Bool) (xs : List X) → InOrder R xs → InOrder R (filter t xs)
+in_order-filter : {X : Type 0} (R : X → X → Type 0) (t : X → Bool) (xs : List X) → InOrder R xs →
+    InOrder R (filter t xs)
 in_order-filter R t [] h = tt
 in_order-filter R t (x ∷ xs) (h, hs) = tested (t x) (in_order-filter R t xs hs)
   where
@@ -240,7 +243,8 @@ ends_counted : (lambda mu nu : List ℕ) (sorted : List (List ℕ)) (pairs : Lis
     count_by (is_it nu) (spread pairs) ≡ length (ending lambda mu nu)
 ends_counted lambda mu nu sorted pairs perm is =
     ap (count_by (is_it nu)) (sym is)
-    ∙ sum_by-IsPermutation (λ x. cond (is_it nu x) 1 0) (map (end_from lambda) (chains lambda lambda (part mu 1) mu)) sorted
+    ∙ sum_by-IsPermutation (λ x. cond (is_it nu x) 1 0) (map (end_from lambda) (chains lambda lambda
+        (part mu 1) mu)) sorted
     perm
     ∙ count-map (is_it nu) (end_from lambda) (chains lambda lambda (part mu 1) mu)
     ∙ sym (length-filter (λ shapes. is_it nu (end_from lambda shapes)) (chains lambda lambda (part mu 1) mu))

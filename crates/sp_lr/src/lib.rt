@@ -3,11 +3,13 @@
 
 mod fault;
 mod filling;
+mod law;
 mod products;
 mod strips;
 
 pub use fault::LrFault;
 pub use filling::{Filling, fillings};
+pub use law::filling_law;
 pub use products::product;
 
 #[cfg(test)]

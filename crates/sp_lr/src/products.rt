@@ -13,7 +13,8 @@ use crate::strips::{append, strips};
 use sp_partition::{CAPACITY, Partition};
 use std::alloc::{AllocError, Global};
 
-/// The partitions that have a filling over `lambda` with content `mu`, descending, each with the number of its fillings.
+/// The partitions that have a filling over `lambda` with content `mu`, descending, each with the number of its
+/// fillings.
 pub fn product(
     alloc: Global,
     lambda: &Partition,

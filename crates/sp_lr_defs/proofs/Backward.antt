@@ -8,8 +8,8 @@ use Rattle.sp_defs.specs.Partition.{IsPartition, part}
 use Rattle.sp_lists.proofs.Elements.{le_or_lt}
 use Rattle.sp_lists.proofs.Places.{all_at}
 use Rattle.sp_shapes.proofs.Diagram.{same_rows}
-use Rattle.sp_lr_defs.specs.Filling.{IsFilling, IsOutside, IsChainTo, row, number_in, member, word, IsLattice}
-use Rattle.sp_lr_defs.specs.Strip.{first, gained, Covers, IsStrip, AreStrips, end_from}
+use Rattle.sp_lr_defs.specs.Filling.{IsFilling, IsOutside, IsChain, IsChainTo, row, number_in, member, word, IsLattice}
+use Rattle.sp_lr_defs.specs.Strip.{first, gained, Covers, IsStrip, AreStrips, IsStripChain, end_from}
 use Rattle.sp_lr_defs.proofs.Sorted.{Rises, rises_next, count_to, place_counted, counted_place}
 use Rattle.sp_lr_defs.proofs.Sums.{first-zeros}
 use Rattle.sp_lr_defs.proofs.Trimmed.{mapped_at, mapped_past, past_end, mapped_is}
@@ -53,7 +53,8 @@ covers_at before last spare (n ∷ n' ∷ ns) (shape ∷ shape' ∷ shapes) (s, 
     covers_at last shape 0 (n' ∷ ns) (shape' ∷ shapes) more k (omega arith)
 
 -- the last of them
-pub end_at : (inner : List ℕ) (shapes : List (List ℕ)) → slice_index_or (inner ∷ shapes) (length shapes) [] ≡ end_from inner shapes
+pub end_at : (inner : List ℕ) (shapes : List (List ℕ)) → slice_index_or (inner ∷ shapes) (length shapes) []
+    ≡ end_from inner shapes
 end_at inner [] = refl
 end_at inner (shape ∷ shapes) = end_at shape shapes
 
@@ -92,7 +93,8 @@ filled_at mu shape h i = settle (le_or_lt (length (shape (length mu))) i)
     settle (inl le) =
         mapped_past (λ i. built (reached shape i) (length mu)) [] 0 (length (shape (length mu))) i le
         ∙ nothing (built (reached shape i) (length mu))
-        (omega (arith, built-length (reached shape i) (length mu) (grows mu shape h i), past_end (shape (length mu)) i le))
+        (omega (arith, built-length (reached shape i) (length mu) (grows mu shape h i), past_end (shape
+            (length mu)) i le))
     settle (inr lt) =
         mapped_at (λ i. built (reached shape i) (length mu)) [] 0 (length (shape (length mu))) i lt
         ∙ ap (λ k. built (reached shape k) (length mu)) (omega arith)
@@ -230,7 +232,8 @@ down mu shape h i c p q = below (number_in (shape 0) (filled mu shape) (suc (suc
 content_is : (mu : List ℕ) (shape : ℕ → List ℕ) → AreMembers mu shape → (k : ℕ) → k < length mu →
     count_by (nat_eq (k + 1)) (word (filled mu shape)) ≡ slice_index mu k
 content_is mu shape h k lt =
-    total (length (shape k) + length (shape (suc k)) + length (filled mu shape)) (omega arith) (omega arith) (omega arith)
+    total (length (shape k) + length (shape (suc k)) + length (filled mu shape)) (omega arith) (omega arith)
+        (omega arith)
   where
     total : (n : ℕ) → length (shape k) ≤ n → length (shape (suc k)) ≤ n → length (filled mu shape) ≤ n →
         count_by (nat_eq (k + 1)) (word (filled mu shape)) ≡ slice_index mu k
@@ -257,7 +260,8 @@ lattice_is mu shape h n (suc k) lo = settle (le_or_lt (length mu) (suc k))
     settle (inl le) =
         omega (
           arith,
-          fronts_hold (nat_eq (suc k)) (nat_eq (suc k + 1)) (filled mu shape) (times (filled mu shape) (suc k)) (λ _. 0) 0 0
+          fronts_hold (nat_eq (suc k)) (nat_eq (suc k + 1)) (filled mu shape) (times (filled mu shape) (suc k))
+              (λ _. 0) 0 0
               (λ i. refl) (filled_none mu shape h (suc k) le) (λ i. zeros i (times (filled mu shape) (suc k))) n,
         )
     settle (inr lt) =
@@ -372,3 +376,12 @@ filling_of_strips lambda mu shapes hl s =
             ap (member lambda (filled mu shape)) (omega arith) ∙ chain_of_members mu shape h i (omega arith)),
       ),
     )
+
+-- A chain of strips is the chain of a filling.
+pub filling_of_chain : (lambda mu : List ℕ) (chain : List (List ℕ)) → IsPartition lambda →
+    IsStripChain lambda mu chain →
+    IsChain lambda mu chain
+filling_of_chain lambda mu [] h s = absurd s
+filling_of_chain lambda mu (inner ∷ shapes) h (is, s) =
+    subst (λ x. IsChain lambda mu (x ∷ shapes)) (sym is) (end_from lambda shapes, filling_of_strips lambda mu shapes h
+        s)

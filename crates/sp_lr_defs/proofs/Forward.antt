@@ -10,7 +10,8 @@ use Rattle.sp_shapes.proofs.Diagram.{same_rows}
 use Rattle.sp_lr_defs.specs.Filling.{IsFilling, IsOutside, row, number_in, member}
 use Rattle.sp_lr_defs.proofs.Sorted.{Rises, rises, count_to, count_one, count_le_length, place_counted, counted_place}
 use Rattle.sp_lr_defs.proofs.Sorted.{all_counted, none_counted}
-use Rattle.sp_lr_defs.proofs.Trimmed.{mapped_at, mapped_past, past_end, Descends, trimmed_at, trimmed_partition, descends}
+use Rattle.sp_lr_defs.proofs.Trimmed.{mapped_at, mapped_past, past_end, Descends, trimmed_at, trimmed_partition}
+use Rattle.sp_lr_defs.proofs.Trimmed.{descends}
 
 -- ---- rows counted from 0
 
@@ -61,7 +62,8 @@ pub row_numbers : (lambda mu nu : List ℕ) (rows : List (List ℕ)) → IsFilli
 row_numbers lambda mu nu rows h i = all_places (λ k. (1 ≤ k) × (k ≤ length mu)) (slice_index_or rows i []) 0 (λ j lt.
     let c : ℕ = slice_index lambda i + suc j in
     let o : IsOutside lambda nu (suc i) c = outside_at lambda mu nu rows h i j c lt refl in
-    let at : number_in lambda rows (suc i, c) ≡ slice_index (slice_index_or rows i []) j = number_at lambda rows i j c refl in
+    let at : number_in lambda rows (suc i, c) ≡ slice_index (slice_index_or rows i []) j = number_at lambda rows i j c
+        refl in
     (omega (arith, h.least (suc i) c o), omega (arith, h.greatest (suc i) c o)))
 
 -- ---- members of the chain
@@ -133,7 +135,8 @@ lengths_past lambda rows k i le =
     mapped_past (λ r. part lambda r + count_by (λ n. nat_le n k) (row rows r)) 0 1 (length rows) i le
 
 -- a greater number reaches as far
-pub reach_more : (lambda : List ℕ) (rows : List (List ℕ)) (k i : ℕ) → reach lambda rows k i ≤ reach lambda rows (k + 1) i
+pub reach_more : (lambda : List ℕ) (rows : List (List ℕ)) (k i : ℕ) →
+    reach lambda rows k i ≤ reach lambda rows (k + 1) i
 reach_more lambda rows k i = omega (arith, count_one k (slice_index_or rows i []))
 
 lengths_descend : (lambda mu nu : List ℕ) (rows : List (List ℕ)) → IsPartition lambda → IsFilling lambda mu nu rows →

@@ -6,3 +6,4 @@ pub mod Forward
 pub mod Strips
 pub mod Built
 pub mod Backward
+pub mod Extending

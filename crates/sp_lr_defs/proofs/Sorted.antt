@@ -53,7 +53,8 @@ count_le_length k (x ∷ xs) = tested (le_or_lt x k) (count_le_length k xs)
     tested (inr h) ih = omega (arith, uncounted k x xs h)
 
 -- of a list that increases, those that are at most k stand at the front
-pub place_counted : (k : ℕ) (xs : List ℕ) → Rises xs → (i : ℕ) → i < length xs → slice_index xs i ≤ k → i < count_to k xs
+pub place_counted : (k : ℕ) (xs : List ℕ) → Rises xs → (i : ℕ) → i < length xs → slice_index xs i ≤ k →
+    i < count_to k xs
 place_counted k [] r i lt h = absurd (omega arith)
 place_counted k (x ∷ xs) r zero lt h = omega (arith, counted k x xs h)
 place_counted k (x ∷ xs) (first, r) (suc i) lt h =

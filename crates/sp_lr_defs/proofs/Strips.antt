@@ -20,7 +20,8 @@ degree-first n xs few = sym (first-list n xs few)
 
 -- what a larger partition has more is what its rows have more
 pub degree-gained : (n : ℕ) (before after : List ℕ) → length before ≤ n → length after ≤ n →
-    ((i : ℕ) → slice_index before i ≤ slice_index after i) → degree after ≡ degree before + first n (gained before after)
+    ((i : ℕ) → slice_index before i ≤ slice_index after i) → degree after
+        ≡ degree before + first n (gained before after)
 degree-gained n before after few few' grows =
     omega (
       arith,
@@ -115,11 +116,13 @@ member_covers lambda mu nu rows hl h k i =
 
 -- strips along a function
 pub strips_along : (shape : ℕ → List ℕ) (ns : List ℕ) (a : ℕ) →
-    ((i j : ℕ) → i ≡ a + j → j < length ns → IsNext (shape i) (shape (i + 1)) 0 (slice_index ns j) (shape (i + 1 + 1))) →
+    ((i j : ℕ) → i ≡ a + j → j < length ns → IsNext (shape i) (shape (i + 1)) 0 (slice_index ns j) (shape (i + 1
+        + 1))) →
     AreStrips (shape a) (shape (a + 1)) 0 ns (map shape (range_with_len (a + 1 + 1) (length ns)))
 strips_along shape [] a f = tt
 strips_along shape (n ∷ ns) a f =
-    (f a 0 (omega arith) (omega arith), strips_along shape ns (a + 1) (λ i j e lt. f i (suc j) (omega arith) (omega arith)))
+    (f a 0 (omega arith) (omega arith), strips_along shape ns (a
+        + 1) (λ i j e lt. f i (suc j) (omega arith) (omega arith)))
 
 -- a strip has no more nodes in its first rows than in all
 pub strip_within : (before after : List ℕ) (n i : ℕ) → IsStrip before after n → first i (gained before after) ≤ n
@@ -141,7 +144,8 @@ strip_within before after n i s =
         moved m i = omega arith
 
 -- the first strip is covered by as many spare nodes as it has
-pub first_covers : (lambda after : List ℕ) (n : ℕ) → IsStrip lambda after n → Covers n (gained lambda lambda) (gained lambda after)
+pub first_covers : (lambda after : List ℕ) (n : ℕ) → IsStrip lambda after n →
+    Covers n (gained lambda lambda) (gained lambda after)
 first_covers lambda after n s i = omega (arith, strip_within lambda after n (suc i) s)
 
 -- The chain of a filling is a chain of strips.
@@ -168,7 +172,8 @@ strips_of_filling lambda mu nu rows hl h =
         let size : slice_index mu 0 ≡ n = ap (λ xs. slice_index xs 0) e in
         let strip' : IsStrip lambda (member lambda rows 1) n =
         subst (λ m. IsStrip lambda (member lambda rows 1) m) size
-        (subst (λ x. IsStrip x (member lambda rows 1) (slice_index mu 0)) (member_first lambda mu nu rows hl h) strip) in (
+        (subst (λ x. IsStrip x (member lambda rows 1) (slice_index mu 0))
+            (member_first lambda mu nu rows hl h) strip) in (
           record {
             strip = strip';
             covered = subst (λ m. Covers m (gained lambda lambda) (gained lambda (member lambda rows 1)))
@@ -177,7 +182,8 @@ strips_of_filling lambda mu nu rows hl h =
           subst (λ x. AreStrips x (member lambda rows 1) 0 ns (map (member lambda rows) (range_with_len 2 (length ns))))
               (member_first lambda mu nu rows hl h)
               (strips_along (member lambda rows) ns 0 (λ i j same lt.
-              subst (λ m. IsNext (member lambda rows i) (member lambda rows (i + 1)) 0 m (member lambda rows (i + 1 + 1)))
+              subst (λ m. IsNext (member lambda rows i) (member lambda rows (i + 1)) 0 m (member lambda rows (i + 1
+                  + 1)))
               (ap (λ k. slice_index mu k) (omega arith) ∙ ap (λ xs. slice_index xs (suc j)) e)
               (next i (omega (arith, ap length e))))),
         )

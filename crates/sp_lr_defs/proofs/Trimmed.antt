@@ -8,7 +8,8 @@ use Rattle.sp_defs.specs.Partition.{IsPartition}
 use Rattle.sp_lists.proofs.Elements.{all_filter, all_every}
 
 -- the value at a place of a range
-pub mapped_at : {X : Type 0} (f : ℕ → X) (d : X) (a n i : ℕ) → i < n → slice_index_or (map f (range_with_len a n)) i d ≡ f (a + i)
+pub mapped_at : {X : Type 0} (f : ℕ → X) (d : X) (a n i : ℕ) → i < n →
+    slice_index_or (map f (range_with_len a n)) i d ≡ f (a + i)
 mapped_at f d a zero i lt = absurd (omega arith)
 mapped_at f d a (suc n) zero lt = ap f (omega arith)
 mapped_at f d a (suc n) (suc i) lt = mapped_at f d (a + 1) n i (omega arith) ∙ ap f (moved a i)
@@ -17,7 +18,8 @@ mapped_at f d a (suc n) (suc i) lt = mapped_at f d (a + 1) n i (omega arith) ∙
     moved a i = omega arith
 
 -- behind the range
-pub mapped_past : {X : Type 0} (f : ℕ → X) (d : X) (a n i : ℕ) → n ≤ i → slice_index_or (map f (range_with_len a n)) i d ≡ d
+pub mapped_past : {X : Type 0} (f : ℕ → X) (d : X) (a n i : ℕ) → n ≤ i →
+    slice_index_or (map f (range_with_len a n)) i d ≡ d
 mapped_past f d a zero i h = refl
 mapped_past f d a (suc n) zero h = absurd (omega arith)
 mapped_past f d a (suc n) (suc i) h = mapped_past f d (a + 1) n i (omega arith)
@@ -55,7 +57,8 @@ pub trimmed_at : (xs : List ℕ) → Descends xs → (i : ℕ) → slice_index (
 trimmed_at [] d i = refl
 trimmed_at (x ∷ xs) d i = tested (nat_lt 0 x) refl i (trimmed_at xs (λ j. d (suc j)))
   where
-    tested : (b : Bool) → nat_lt 0 x ≡ b → (i : ℕ) → ((j : ℕ) → slice_index (filter (nat_lt 0) xs) j ≡ slice_index xs j) →
+    tested : (b : Bool) → nat_lt 0 x ≡ b → (i : ℕ) → ((j : ℕ) →
+        slice_index (filter (nat_lt 0) xs) j ≡ slice_index xs j) →
         slice_index (cond b (x ∷ filter (nat_lt 0) xs) (filter (nat_lt 0) xs)) i ≡ slice_index (x ∷ xs) i
     tested true e zero ih = refl
     tested true e (suc i) ih = ih i

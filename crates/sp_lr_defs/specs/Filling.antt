@@ -1,6 +1,7 @@
 -- Fillings of skew shapes: numbers in the nodes of a partition that are outside another, whose word is a lattice word.
 -- The rule of Littlewood and Richardson counts them.
-use Rattle.std.specs.Prelude.{◌≡◌, ℕ, ◌+◌, ◌-◌, ◌<◌, ◌≤◌, nat_le, nat_lt, nat_eq, List, [], ◌∷◌, map, take, filter, reverse}
+use Rattle.std.specs.Prelude.{◌≡◌, ℕ, ◌+◌, ◌-◌, ◌<◌, ◌≤◌, nat_le, nat_lt, nat_eq, List, [], ◌∷◌, map, take, filter}
+use Rattle.std.specs.Prelude.{reverse}
 use Rattle.std.specs.Prelude.{length, flat_map, slice_index, slice_index_or, count_by}
 use Rattle.std.specs.List.{AllByRecursion, Contains, range_with_len}
 use Rattle.std.specs.Cmp.Lexicographic.{slice_cmp}
@@ -33,10 +34,12 @@ word rows = flat_map (λ numbers. reverse numbers) rows
 -- A lattice word: each prefix has at least as many k as k + 1.
 -- (Macdonald, Symmetric Functions and Hall Polynomials, I.9; a reverse lattice word in Fulton, Young Tableaux, 5.2)
 abbrev pub IsLattice : List ℕ → Type 0
-IsLattice letters = (n k : ℕ) → 1 ≤ k → count_by (nat_eq (k + 1)) (take n letters) ≤ count_by (nat_eq k) (take n letters)
+IsLattice letters = (n k : ℕ) → 1 ≤ k → count_by (nat_eq (k + 1)) (take n letters) ≤ count_by (nat_eq k)
+    (take n letters)
 
 -- A filling of nu over lambda with content mu: each node of nu outside lambda, where lambda is inside nu, has a number
--- from 1 to the number of parts of mu. Rows increase weakly and columns strictly, the number k occurs as often as part k
+-- from 1 to the number of parts of mu. Rows increase weakly and columns strictly, the number k occurs as often as part
+-- k
 -- of mu says, and the word is a lattice word.
 -- (Fulton, Young Tableaux, 5.2; Macdonald, Symmetric Functions and Hall Polynomials, I.9)
 pub record IsFilling (lambda mu nu : List ℕ) (rows : List (List ℕ)) : Type 0 where
@@ -59,7 +62,8 @@ member lambda rows k =
     filter (nat_lt 0)
     (map (λ r. part lambda r + count_by (λ n. nat_le n k) (row rows r)) (from_one_to (length rows)))
 
--- The chain of a filling with numbers up to `most`: from `lambda` on, each further member adds the nodes with one number.
+-- The chain of a filling with numbers up to `most`: from `lambda` on, each further member adds the nodes with one
+-- number.
 -- (Macdonald, Symmetric Functions and Hall Polynomials, I.1)
 abbrev pub chain_of : List ℕ → ℕ → List (List ℕ) → List (List ℕ)
 chain_of lambda most rows = map (member lambda rows) (range_with_len 0 (most + 1))

@@ -38,7 +38,8 @@ AreStrips before last spare (n ∷ ns) [] = ⊥
 AreStrips before last spare (n ∷ ns) (shape ∷ shapes) =
     IsNext before last spare n shape × AreStrips last shape 0 ns shapes
 
--- A chain from `lambda` on, whose strips have the sizes that mu says, and each but the first is covered by the one before
+-- A chain from `lambda` on, whose strips have the sizes that mu says, and each but the first is covered by the one
+-- before
 -- (this project's own).
 abbrev pub IsStripChain : List ℕ → List ℕ → List (List ℕ) → Type 0
 IsStripChain lambda mu [] = ⊥

@@ -1,4 +1,5 @@
-use Rattle.std.proofs.Common.{rules, ◌≡◌, ◌+◌, ◌-◌, ◌≤◌, ◌<◌, ◌++◌, ◌∷◌, [], arith, subst, sym, ◌∙◌, ap, length, slice_index}
+use Rattle.std.proofs.Common.{rules, ◌≡◌, ◌+◌, ◌-◌, ◌≤◌, ◌<◌, ◌++◌, ◌∷◌, [], arith, subst, sym, ◌∙◌, ap, length}
+use Rattle.std.proofs.Common.{slice_index}
 use Rattle.std.proofs.Common.{take, flat_map, append-nil, vec_len}
 use Rattle.std.proofs.Math.Seq.{take-length}
 use Rattle.std.proofs.lemmas.List.{length-map}
@@ -24,7 +25,8 @@ returns-then-len-most-clause-many t c = λ _.
 pub returns-in_ok-push_filling-in-empty-clause-found : goal.returns-in_ok-push_filling-in-empty-clause-found
 returns-in_ok-push_filling-in-empty-clause-found t c =
     c.in_ok-push_filling-in-empty.ensures.chains
-    ∙ ap (λ xs. chains_in c.args.found.now.items ++ xs ∷ []) (c.deref.ensures.value ∙ sym (append-nil c.args.chain.now.items))
+    ∙ ap (λ xs. chains_in c.args.found.now.items ++ xs ∷ []) (c.deref.ensures.value
+        ∙ sym (append-nil c.args.chain.now.items))
     ∙ ap (λ cs. chains_in c.args.found.now.items ++ behind c.args.chain.now.items cs)
     (sym (chains_done c.args.before.now c.args.last.now c.args.spare c.args.sizes.now (omega arith)))
 
@@ -32,7 +34,8 @@ pub push_fillings-requires : goal.push_fillings-requires
 push_fillings-requires t c =
     let some : 1 ≤ length c.args.sizes.now = omega arith in
     let within : c.loop-shape.shape-index < length c.deref-shape-items.result.now = omega arith in
-    let next : IsNext c.args.before.now c.args.last.now c.args.spare (slice_index c.args.sizes.now 0) c.shape-item.result =
+    let next : IsNext c.args.before.now c.args.last.now c.args.spare
+        (slice_index c.args.sizes.now 0) c.shape-item.result =
     next_at c.args.before.now c.args.last.now c.args.spare (slice_index c.args.sizes.now 0)
     c.deref-shape-items.result.now c.loop-shape.shape-index c.shape-item.result c.requires.room.held.partition
     (c.deref-shape-items.ensures.value ∙ c.in_ok-shapes-in-len1-up.ensures) within c.shape-item.is in
@@ -73,7 +76,8 @@ loop-shape-preserved t c =
     c.in_ok-append-in-len1-up.ensures ∙ ap (λ xs. xs ++ c.shape-item.result ∷ []) c.loop-shape.invariant.chain in
     let count : vec_len c.push_fillings.new.chain ≡ length c.push_fillings.new.chain.items = omega arith in
     record {
-      chain = without_last c.push_fillings.new.chain.items c.args.chain.now.items c.pop.new.self.items c.shape-item.result
+      chain = without_last c.push_fillings.new.chain.items c.args.chain.now.items c.pop.new.self.items
+          c.shape-item.result
           (c.in_ok-push_fillings-in-len1-up.ensures.chain ∙ grows)
           (c.pop.ensures.rest ∙ ap (λ n. take (n - 1) c.push_fillings.new.chain.items) count);
       found = found_more (chains_in c.args.found.now.items) (chains_in c.loop-shape.found.items)

@@ -10,6 +10,7 @@ decreases-push_ends l = length l.sizes.now
 abbrev pub invariant-loop-shape : goal.invariant-loop-shape
 invariant-loop-shape l = record {
   ends : l.ends.items
-      ≡ l.fn.ends.items ++ map (end_from l.last) (flat_map (chain_block l.last l.later) (take l.shape-index l.shape-items));
+      ≡ l.fn.ends.items ++ map (end_from l.last) (flat_map (chain_block l.last l.later)
+          (take l.shape-index l.shape-items));
   few : length l.ends.items ≤ l.most;
 }

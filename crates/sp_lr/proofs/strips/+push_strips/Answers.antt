@@ -1,7 +1,9 @@
-use Rattle.std.proofs.Common.{rules, ◌≡◌, ◌+◌, ◌++◌, ◌∷◌, [], arith, subst, sym, ◌∙◌, ap, ℕ, suc, ◌-◌, ◌≤◌, length, length-append}
+use Rattle.std.proofs.Common.{rules, ◌≡◌, ◌+◌, ◌++◌, ◌∷◌, [], arith, subst, sym, ◌∙◌, ap, ℕ, suc, ◌-◌, ◌≤◌, length}
+use Rattle.std.proofs.Common.{length-append}
 use Rattle.std.proofs.lemmas.Result.{on_ok_weaker}
 use Rattle.sp_lr.specs.Strips.{behind, AreHeld, strips}
-use Rattle.sp_lr.proofs.Rounds.{head, rest, split_rows, falls_split, gained_split, strips_split, strips-nil, strips-cons}
+use Rattle.sp_lr.proofs.Rounds.{head, rest, split_rows, falls_split, gained_split, strips_split, strips-nil}
+use Rattle.sp_lr.proofs.Rounds.{strips-cons}
 use Rattle.sp_lr.proofs.Rounds.{held_round, round, without_last, end_of, blocks}
 use Rattle.sp_lr.proofs.strips.+push_strips.Goals as goal
 

@@ -1,0 +1,13 @@
+// The law of fillings.
+ghost use Rattle.std.specs.Prelude.{List, ℕ, ◌++◌};
+ghost use Rattle.sp_defs.specs.Partition.{IsPartition};
+ghost use Rattle.sp_lr_defs.specs.Filling.{IsChain};
+
+/// For all partitions: the chain of each filling with the first parts of mu as content begins the chain of a filling
+/// with all of them. So a search that adds one number after the other never has to turn back, and where it has found
+/// more chains than it may on the way, there are more in the end. It takes and answers nothing: its contract is the
+/// theorem.
+pub fn filling_law()
+    ensures { (lambda mu later : List ℕ) (chain : List (List ℕ)) → IsPartition lambda → IsPartition (mu ++ later) →
+        IsChain lambda mu chain → (more : List (List ℕ)) × IsChain lambda (mu ++ later) (chain ++ more) }
+{}
