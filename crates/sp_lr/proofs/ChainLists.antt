@@ -53,14 +53,14 @@ strips_descend [] above spare left =
 strips_descend (row ∷ rows) above spare left =
     subst (InOrder IsLater) (sym (strips-cons row rows above spare left))
     (in_order-flat (λ _. Unit {0}) (λ a b. b < a) IsLater (block row rows spare left) (down
-        (end_of row above spare left))
+    (end_of row above spare left))
     (all_every (λ _. Unit {0}) (down (end_of row above spare left)) (λ _. tt)) (down_descends
-        (end_of row above spare left))
+    (end_of row above spare left))
     (λ more _. in_order-map IsLater (λ below. (row.length + more) ∷ below)
     (strips rows row.length (spare - more + row.gained) (left - more))
     (in_order-weaken IsLater (λ xs ys. IsLater ((row.length + more) ∷ xs) ((row.length + more) ∷ ys))
     (strips rows row.length (spare - more + row.gained) (left - more)) (λ xs ys h. later_rest (row.length
-        + more) xs ys h)
+    + more) xs ys h)
     (strips_descend rows row.length (spare - more + row.gained) (left - more))))
     (λ more fewer _ _ lt. all_map (λ xs. AllByRecursion (IsLater xs) (block row rows spare left fewer))
     (λ below. (row.length + more) ∷ below) (strips rows row.length (spare - more + row.gained) (left - more))

@@ -32,7 +32,7 @@ pub chains_split : (before last : List ℕ) (spare : ℕ) (sizes : List ℕ) →
     ≡ flat_map (chain_block last (later sizes)) (strips_after before last spare (slice_index sizes 0))
 chains_split before last spare sizes h =
     ap (chains before last spare) (split_sizes sizes h) ∙ chains-cons before last spare (slice_index sizes 0)
-        (later sizes)
+    (later sizes)
 
 -- with no size there is nothing to add
 pub chains_done : (before last : List ℕ) (spare : ℕ) (sizes : List ℕ) → length sizes < 1 →

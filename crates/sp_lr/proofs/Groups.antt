@@ -104,7 +104,7 @@ rises_at ends j sorted lt pos ne =
 -- where it is another, the count makes a pair
 pub count_ends : (ends : List (List ℕ)) (j count : ℕ) (pairs new : List (List ℕ × ℕ)) → IsSorted order ends →
     j < length ends → IsFirst ends j → new ≡ pairs ++ (at ends j, count + 1) ∷ [] →
-        AreCounted ends (suc j) count pairs →
+    AreCounted ends (suc j) count pairs →
     AreCounted ends j 0 new
 count_ends ends j count pairs new sorted lt is_first more h = subst (AreCounted ends j 0) (sym more) (record {
   whole =

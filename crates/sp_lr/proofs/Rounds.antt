@@ -60,9 +60,9 @@ pub round : (before after all : List (List ℕ)) (front grown : List ℕ) (row :
 round before after all front grown row rows spare left more grows is so_far =
     ap (λ xs. xs ++ behind front (blocks row rows spare left more))
     (is ∙ ap (λ xs. before ++ behind xs tails) grows ∙ ap (λ xs. before ++ xs) (sym (behind-cons front (row.length
-        + more) tails)))
+    + more) tails)))
     ∙ append_assoc before (behind front (block row rows spare left more)) (behind front
-        (blocks row rows spare left more))
+    (blocks row rows spare left more))
     ∙ ap (λ xs. before ++ xs)
     (sym (behind-append front (block row rows spare left more) (blocks row rows spare left more))
     ∙ ap (behind front) (sym (flat_map-cons (block row rows spare left) more (down more))))

@@ -70,7 +70,7 @@ pub rows_fall : (before last : List ℕ) (above : ℕ) → IsPartition last → 
 rows_fall before last above h top =
     let is : lengths (rows_of before last) ≡ last = lengths-rows before last in
     falls_of above (rows_of before last) (subst (λ xs. slice_index xs 0 ≤ above) (sym is) (subst
-        (λ x. x ≤ above) refl top))
+    (λ x. x ≤ above) refl top))
     (subst Descends (sym is) (descends last h))
 
 -- each row has a node

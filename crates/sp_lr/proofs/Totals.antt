@@ -244,7 +244,7 @@ ends_counted : (lambda mu nu : List ℕ) (sorted : List (List ℕ)) (pairs : Lis
 ends_counted lambda mu nu sorted pairs perm is =
     ap (count_by (is_it nu)) (sym is)
     ∙ sum_by-IsPermutation (λ x. cond (is_it nu x) 1 0) (map (end_from lambda) (chains lambda lambda
-        (part mu 1) mu)) sorted
+    (part mu 1) mu)) sorted
     perm
     ∙ count-map (is_it nu) (end_from lambda) (chains lambda lambda (part mu 1) mu)
     ∙ sym (length-filter (λ shapes. is_it nu (end_from lambda shapes)) (chains lambda lambda (part mu 1) mu))

@@ -93,8 +93,12 @@ filled_at mu shape h i = settle (le_or_lt (length (shape (length mu))) i)
     settle (inl le) =
         mapped_past (λ i. built (reached shape i) (length mu)) [] 0 (length (shape (length mu))) i le
         ∙ nothing (built (reached shape i) (length mu))
-        (omega (arith, built-length (reached shape i) (length mu) (grows mu shape h i), past_end (shape
-            (length mu)) i le))
+        (omega (
+          arith,
+          built-length (reached shape i) (length mu) (grows mu shape h i),
+          past_end (shape
+              (length mu)) i le,
+        ))
     settle (inr lt) =
         mapped_at (λ i. built (reached shape i) (length mu)) [] 0 (length (shape (length mu))) i lt
         ∙ ap (λ k. built (reached shape k) (length mu)) (omega arith)
@@ -233,7 +237,7 @@ content_is : (mu : List ℕ) (shape : ℕ → List ℕ) → AreMembers mu shape 
     count_by (nat_eq (k + 1)) (word (filled mu shape)) ≡ slice_index mu k
 content_is mu shape h k lt =
     total (length (shape k) + length (shape (suc k)) + length (filled mu shape)) (omega arith) (omega arith)
-        (omega arith)
+    (omega arith)
   where
     total : (n : ℕ) → length (shape k) ≤ n → length (shape (suc k)) ≤ n → length (filled mu shape) ≤ n →
         count_by (nat_eq (k + 1)) (word (filled mu shape)) ≡ slice_index mu k
@@ -383,5 +387,8 @@ pub filling_of_chain : (lambda mu : List ℕ) (chain : List (List ℕ)) → IsPa
     IsChain lambda mu chain
 filling_of_chain lambda mu [] h s = absurd s
 filling_of_chain lambda mu (inner ∷ shapes) h (is, s) =
-    subst (λ x. IsChain lambda mu (x ∷ shapes)) (sym is) (end_from lambda shapes, filling_of_strips lambda mu shapes h
-        s)
+    subst (λ x. IsChain lambda mu (x ∷ shapes)) (sym is) (
+      end_from lambda shapes,
+      filling_of_strips lambda mu shapes h
+          s,
+    )

@@ -2,14 +2,13 @@
 -- a
 -- node of the next.
 use Rattle.std.proofs.Common.{◌≡◌, ℕ, zero, suc, ◌+◌, ◌-◌, ◌<◌, ◌≤◌, min, List, [], ◌∷◌, ◌++◌, length, slice_index}
-use Rattle.std.proofs.Common.{refl, sym}
-use Rattle.std.proofs.Common.{◌∙◌, ap, ap₂, subst, arith, sum, add-one, ◌⊎◌, inl, inr}
+use Rattle.std.proofs.Common.{refl}
+use Rattle.std.proofs.Common.{◌∙◌, ap, subst, arith, sum, add-one}
 use Rattle.std.specs.List.{AllByRecursion}
 use Rattle.std.proofs.lemmas.List.Elements.{All-from_recursion, recursion_from_All}
 use Rattle.std.proofs.lemmas.List.Sums.{sum_by-cons}
-use Rattle.sp_defs.specs.Partition.{IsPartition, degree, part}
-use Rattle.sp_lists.proofs.Elements.{le_or_lt}
-use Rattle.sp_lr_defs.specs.Strip.{first, gained, Covers, IsStrip, IsNext, AreStrips, IsStripChain}
+use Rattle.sp_defs.specs.Partition.{IsPartition}
+use Rattle.sp_lr_defs.specs.Strip.{first, gained, IsStrip, IsNext, AreStrips, IsStripChain}
 use Rattle.sp_lr_defs.proofs.Sums.{first-le, first-zeros}
 use Rattle.sp_lr_defs.proofs.Trimmed.{past_end}
 use Rattle.sp_lr_defs.proofs.Strips.{degree-gained, first_covers, strips_of_filling}
@@ -25,18 +24,24 @@ pub record ArePlaced (n : ℕ) (given : ℕ → ℕ) (xs ys : List ℕ) : Type 0
   pub positive : AllByRecursion (λ p. 0 < p) ys
 
 new_row : (n : ℕ) (given : ℕ → ℕ) → n ≤ given 0 → (ys : List ℕ) × ArePlaced n given [] ys
-new_row zero given h = ([], record {
-  grows = λ i. omega arith;
-  few = λ i. omega arith;
-  total = refl;
-  positive = tt;
-})
-new_row (suc n) given h = (suc n ∷ [], record {
-  grows = λ i. omega arith;
-  few = few;
-  total = sum_by-cons (λ x. x) (suc n) [] ∙ plain n;
-  positive = (omega arith, tt);
-})
+new_row zero given h = (
+  [],
+  record {
+    grows = λ i. omega arith;
+    few = λ i. omega arith;
+    total = refl;
+    positive = tt;
+  },
+)
+new_row (suc n) given h = (
+  suc n ∷ [],
+  record {
+    grows = λ i. omega arith;
+    few = few;
+    total = sum_by-cons (λ x. x) (suc n) [] ∙ plain n;
+    positive = (omega arith, tt);
+  },
+)
   where
     few : (i : ℕ) → slice_index (suc n ∷ []) i ≤ slice_index [] i + given i
     few zero = omega arith
@@ -60,18 +65,21 @@ placed n given (x ∷ xs) (pos, poss) h =
 
     more : (ys : List ℕ) × ArePlaced (n - min n (given 0)) (λ i. given (suc i)) xs ys →
         (ys : List ℕ) × ArePlaced n given (x ∷ xs) ys
-    more (ys, p) = ((x + min n (given 0)) ∷ ys, record {
-      grows = grows;
-      few = few;
-      total =
-          omega (
-            arith,
-            p.total,
-            sum_by-cons (λ y. y) (x + min n (given 0)) ys,
-            sum_by-cons (λ y. y) x xs,
-          );
-      positive = (omega arith, p.positive);
-    })
+    more (ys, p) = (
+      (x + min n (given 0)) ∷ ys,
+      record {
+        grows = grows;
+        few = few;
+        total =
+            omega (
+              arith,
+              p.total,
+              sum_by-cons (λ y. y) (x + min n (given 0)) ys,
+              sum_by-cons (λ y. y) x xs,
+            );
+        positive = (omega arith, p.positive);
+      },
+    )
       where
         grows : (i : ℕ) → slice_index (x ∷ xs) i ≤ slice_index ((x + min n (given 0)) ∷ ys) i
         grows zero = omega arith
@@ -88,8 +96,11 @@ strip_of before xs ys c m n h s p = record {
   strip = record {
     partition = record {
       descending = λ i. omega (arith, ap (slice_index (c ∷ ys)) (add-one i), below i, grows i);
-      positive = All-from_recursion (λ q. 0 < q) (c ∷ ys) ((recursion_from_All (λ q. 0 < q)
-          (c ∷ xs) h.positive).0, p.positive);
+      positive = All-from_recursion (λ q. 0 < q) (c ∷ ys) (
+        (recursion_from_All (λ q. 0 < q)
+            (c ∷ xs) h.positive).0,
+        p.positive,
+      );
     };
     grows = grows;
     apart = λ i. omega (arith, ap (slice_index (c ∷ ys)) (add-one i), below i);
@@ -132,15 +143,18 @@ first-stops (suc k) j f h =
 pub next_exists : (before last : List ℕ) (m n : ℕ) → IsPartition last → IsStrip before last m → n ≤ m →
     (after : List ℕ) × IsNext before last 0 n after
 next_exists before [] m n h s le =
-    let none : n ≡ 0 = omega (arith, s.total) in ([], record {
-      strip = record {
-        partition = h;
-        grows = λ i. omega arith;
-        apart = λ i. omega arith;
-        total = omega arith;
-      };
-      covered = λ i. omega (arith, first-le (suc i) (gained [] []) (λ _. 0) (λ j. omega arith), zeros (suc i));
-    })
+    let none : n ≡ 0 = omega (arith, s.total) in (
+      [],
+      record {
+        strip = record {
+          partition = h;
+          grows = λ i. omega arith;
+          apart = λ i. omega arith;
+          total = omega arith;
+        };
+        covered = λ i. omega (arith, first-le (suc i) (gained [] []) (λ _. 0) (λ j. omega arith), zeros (suc i));
+      },
+    )
   where
     zeros : (k : ℕ) → first k (λ _. 0) ≡ 0
     zeros zero = refl
@@ -202,28 +216,37 @@ sizes_fall n (n' ∷ ns) h = (h.descending 0, sizes_fall n' ns (IsPartition-tail
 
 -- a strip of n nodes in the first row
 first_exists : (lambda : List ℕ) (n : ℕ) → IsPartition lambda → 0 < n → (after : List ℕ) × IsStrip lambda after n
-first_exists [] n h pos = (n ∷ [], record {
-  partition = record {
-    descending = λ i. omega (arith, ap (slice_index (n ∷ [])) (add-one i));
-    positive = All-from_recursion (λ q. 0 < q) (n ∷ []) (pos, tt);
-  };
-  grows = λ i. omega arith;
-  apart = λ i. omega (arith, ap (slice_index (n ∷ [])) (add-one i));
-  total = sum_by-cons (λ y. y) n [] ∙ plain n;
-})
+first_exists [] n h pos = (
+  n ∷ [],
+  record {
+    partition = record {
+      descending = λ i. omega (arith, ap (slice_index (n ∷ [])) (add-one i));
+      positive = All-from_recursion (λ q. 0 < q) (n ∷ []) (pos, tt);
+    };
+    grows = λ i. omega arith;
+    apart = λ i. omega (arith, ap (slice_index (n ∷ [])) (add-one i));
+    total = sum_by-cons (λ y. y) n [] ∙ plain n;
+  },
+)
   where
     plain : (n : ℕ) → n + 0 ≡ 0 + n
     plain n = omega arith
-first_exists (c ∷ xs) n h pos = ((c + n) ∷ xs, record {
-  partition = record {
-    descending = λ i. omega (arith, ap (slice_index ((c + n) ∷ xs)) (add-one i), below i, grows i);
-    positive = All-from_recursion (λ q. 0 < q) ((c + n) ∷ xs) (omega arith, (recursion_from_All (λ q. 0 < q)
-        (c ∷ xs) h.positive).1);
-  };
-  grows = grows;
-  apart = λ i. omega (arith, ap (slice_index ((c + n) ∷ xs)) (add-one i), below i);
-  total = omega (arith, sum_by-cons (λ y. y) (c + n) xs, sum_by-cons (λ y. y) c xs);
-})
+first_exists (c ∷ xs) n h pos = (
+  (c + n) ∷ xs,
+  record {
+    partition = record {
+      descending = λ i. omega (arith, ap (slice_index ((c + n) ∷ xs)) (add-one i), below i, grows i);
+      positive = All-from_recursion (λ q. 0 < q) ((c + n) ∷ xs) (
+        omega arith,
+        (recursion_from_All (λ q. 0 < q)
+            (c ∷ xs) h.positive).1,
+      );
+    };
+    grows = grows;
+    apart = λ i. omega (arith, ap (slice_index ((c + n) ∷ xs)) (add-one i), below i);
+    total = omega (arith, sum_by-cons (λ y. y) (c + n) xs, sum_by-cons (λ y. y) c xs);
+  },
+)
   where
     below : (i : ℕ) → slice_index xs i ≤ slice_index (c ∷ xs) i
     below i = omega (arith, h.descending i, ap (slice_index (c ∷ xs)) (add-one i))
@@ -240,8 +263,7 @@ chain_extended lambda mu later [] h f s = absurd s
 chain_extended lambda [] [] (inner ∷ []) h f (is, s) = ([], (is, tt))
 chain_extended lambda [] (n ∷ later) (inner ∷ []) h f (is, s) =
     let after = first_exists lambda n h (IsPartition-head n later f) in
-    let more = goes_on lambda after.0 n later after.1.partition after.1 (sizes_fall n later f) in
-    (
+    let more = goes_on lambda after.0 n later after.1.partition after.1 (sizes_fall n later f) in (
       after.0 ∷ more.0,
       (is, (record { strip = after.1; covered = first_covers lambda after.0 n after.1 }, more.1)),
     )
@@ -253,7 +275,7 @@ chain_extended lambda (n ∷ ns) later (inner ∷ shapes) h f (is, s) =
 -- The chain of a filling with the first parts of mu as content begins that of a filling with all of them.
 pub filling_extended : (lambda mu later : List ℕ) (chain : List (List ℕ)) → IsPartition lambda →
     IsPartition (mu ++ later) → IsChain lambda mu chain → (more : List (List ℕ)) × IsChain lambda (mu ++ later)
-        (chain ++ more)
+    (chain ++ more)
 filling_extended lambda mu later chain h f (nu, (rows, (filling, is))) =
     let more = chain_extended lambda mu later chain h f
     (subst (IsStripChain lambda mu) is (strips_of_filling lambda mu nu rows h filling)) in

@@ -63,7 +63,7 @@ row_numbers lambda mu nu rows h i = all_places (λ k. (1 ≤ k) × (k ≤ length
     let c : ℕ = slice_index lambda i + suc j in
     let o : IsOutside lambda nu (suc i) c = outside_at lambda mu nu rows h i j c lt refl in
     let at : number_in lambda rows (suc i, c) ≡ slice_index (slice_index_or rows i []) j = number_at lambda rows i j c
-        refl in
+    refl in
     (omega (arith, h.least (suc i) c o), omega (arith, h.greatest (suc i) c o)))
 
 -- ---- members of the chain

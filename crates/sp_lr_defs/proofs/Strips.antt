@@ -21,7 +21,7 @@ degree-first n xs few = sym (first-list n xs few)
 -- what a larger partition has more is what its rows have more
 pub degree-gained : (n : ℕ) (before after : List ℕ) → length before ≤ n → length after ≤ n →
     ((i : ℕ) → slice_index before i ≤ slice_index after i) → degree after
-        ≡ degree before + first n (gained before after)
+    ≡ degree before + first n (gained before after)
 degree-gained n before after few few' grows =
     omega (
       arith,
@@ -117,12 +117,14 @@ member_covers lambda mu nu rows hl h k i =
 -- strips along a function
 pub strips_along : (shape : ℕ → List ℕ) (ns : List ℕ) (a : ℕ) →
     ((i j : ℕ) → i ≡ a + j → j < length ns → IsNext (shape i) (shape (i + 1)) 0 (slice_index ns j) (shape (i + 1
-        + 1))) →
+    + 1))) →
     AreStrips (shape a) (shape (a + 1)) 0 ns (map shape (range_with_len (a + 1 + 1) (length ns)))
 strips_along shape [] a f = tt
-strips_along shape (n ∷ ns) a f =
-    (f a 0 (omega arith) (omega arith), strips_along shape ns (a
-        + 1) (λ i j e lt. f i (suc j) (omega arith) (omega arith)))
+strips_along shape (n ∷ ns) a f = (
+  f a 0 (omega arith) (omega arith),
+  strips_along shape ns (a
+      + 1) (λ i j e lt. f i (suc j) (omega arith) (omega arith)),
+)
 
 -- a strip has no more nodes in its first rows than in all
 pub strip_within : (before after : List ℕ) (n i : ℕ) → IsStrip before after n → first i (gained before after) ≤ n
@@ -173,7 +175,7 @@ strips_of_filling lambda mu nu rows hl h =
         let strip' : IsStrip lambda (member lambda rows 1) n =
         subst (λ m. IsStrip lambda (member lambda rows 1) m) size
         (subst (λ x. IsStrip x (member lambda rows 1) (slice_index mu 0))
-            (member_first lambda mu nu rows hl h) strip) in (
+        (member_first lambda mu nu rows hl h) strip) in (
           record {
             strip = strip';
             covered = subst (λ m. Covers m (gained lambda lambda) (gained lambda (member lambda rows 1)))
@@ -183,7 +185,7 @@ strips_of_filling lambda mu nu rows hl h =
               (member_first lambda mu nu rows hl h)
               (strips_along (member lambda rows) ns 0 (λ i j same lt.
               subst (λ m. IsNext (member lambda rows i) (member lambda rows (i + 1)) 0 m (member lambda rows (i + 1
-                  + 1)))
+              + 1)))
               (ap (λ k. slice_index mu k) (omega arith) ∙ ap (λ xs. slice_index xs (suc j)) e)
               (next i (omega (arith, ap length e))))),
         )

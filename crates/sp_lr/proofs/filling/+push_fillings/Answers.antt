@@ -26,7 +26,7 @@ pub returns-in_ok-push_filling-in-empty-clause-found : goal.returns-in_ok-push_f
 returns-in_ok-push_filling-in-empty-clause-found t c =
     c.in_ok-push_filling-in-empty.ensures.chains
     ∙ ap (λ xs. chains_in c.args.found.now.items ++ xs ∷ []) (c.deref.ensures.value
-        ∙ sym (append-nil c.args.chain.now.items))
+    ∙ sym (append-nil c.args.chain.now.items))
     ∙ ap (λ cs. chains_in c.args.found.now.items ++ behind c.args.chain.now.items cs)
     (sym (chains_done c.args.before.now c.args.last.now c.args.spare c.args.sizes.now (omega arith)))
 
@@ -35,7 +35,7 @@ push_fillings-requires t c =
     let some : 1 ≤ length c.args.sizes.now = omega arith in
     let within : c.loop-shape.shape-index < length c.deref-shape-items.result.now = omega arith in
     let next : IsNext c.args.before.now c.args.last.now c.args.spare
-        (slice_index c.args.sizes.now 0) c.shape-item.result =
+    (slice_index c.args.sizes.now 0) c.shape-item.result =
     next_at c.args.before.now c.args.last.now c.args.spare (slice_index c.args.sizes.now 0)
     c.deref-shape-items.result.now c.loop-shape.shape-index c.shape-item.result c.requires.room.held.partition
     (c.deref-shape-items.ensures.value ∙ c.in_ok-shapes-in-len1-up.ensures) within c.shape-item.is in

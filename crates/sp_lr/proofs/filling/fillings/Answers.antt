@@ -20,7 +20,7 @@ returns-in_err-push_fillings-clause-many c =
     c.from_residual-in_err-push_fillings.ensures.1 in
     rw (p.1, p.2) (λ e.
     are_more c.args.lambda.now c.args.mu.now c.args.most c.part.result c.parts.result.now
-        c.degree.ensures.held.partition
+    c.degree.ensures.held.partition
     c.part.ensures.value c.parts.ensures.parts
     (subst (λ n. c.args.most < n + length (chains c.args.lambda.now c.args.lambda.now c.part.result c.parts.result.now))
     (ap length c.new-found.ensures.items) (c.push_fillings.ensures.many (c.in_err-push_fillings.was ∙ err_same _ _ e))))

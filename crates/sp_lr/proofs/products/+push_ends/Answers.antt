@@ -28,7 +28,7 @@ push_ends-requires t c =
     let some : 1 ≤ length c.args.sizes.now = omega arith in
     let within : c.loop-shape.shape-index < length c.deref-shape-items.result.now = omega arith in
     let next : IsNext c.args.before.now c.args.last.now c.args.spare
-        (slice_index c.args.sizes.now 0) c.shape-item.result =
+    (slice_index c.args.sizes.now 0) c.shape-item.result =
     next_at c.args.before.now c.args.last.now c.args.spare (slice_index c.args.sizes.now 0)
     c.deref-shape-items.result.now c.loop-shape.shape-index c.shape-item.result c.requires.room.held.partition
     (c.deref-shape-items.ensures.value ∙ c.in_ok-shapes-in-len1-up.ensures) within c.shape-item.is in

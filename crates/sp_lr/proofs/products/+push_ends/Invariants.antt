@@ -11,6 +11,6 @@ abbrev pub invariant-loop-shape : goal.invariant-loop-shape
 invariant-loop-shape l = record {
   ends : l.ends.items
       ≡ l.fn.ends.items ++ map (end_from l.last) (flat_map (chain_block l.last l.later)
-          (take l.shape-index l.shape-items));
+      (take l.shape-index l.shape-items));
   few : length l.ends.items ≤ l.most;
 }

@@ -7,7 +7,7 @@ loop-place-preserved-then-is_first c =
     let next : c.loop-place.place ≡ suc (c.loop-place.place - 1) = omega arith in
     let within : c.loop-place.place - 1 < length c.args.ends.now = omega (arith, c.loop-place.invariant.few) in
     count_ends c.args.ends.now (c.loop-place.place - 1) c.loop-place.count c.loop-place.pairs.items
-        c.push.new.self.items
+    c.push.new.self.items
     c.requires within (c.is_first.ensures.0 c.if-is_first.true)
     (c.in_ok-push.ensures.items
     ∙ ap (λ x. c.loop-place.pairs.items ++ (x, c.loop-place.count + 1) ∷ [])
@@ -19,6 +19,6 @@ loop-place-preserved c =
     let next : c.loop-place.place ≡ suc (c.loop-place.place - 1) = omega arith in
     let within : c.loop-place.place - 1 < length c.args.ends.now = omega (arith, c.loop-place.invariant.few) in
     let alike = same_before c.args.ends.now (c.loop-place.place - 1) c.is_first.result c.is_first.ensures
-        c.if-is_first.false in
+    c.if-is_first.false in
     count_on c.args.ends.now (c.loop-place.place - 1) c.loop-place.count c.loop-place.pairs.items within alike.0 alike.1
     (subst (λ i. AreCounted c.args.ends.now i c.loop-place.count c.loop-place.pairs.items) next c.loop-place.invariant)

@@ -12,7 +12,7 @@ returns-in_err-push_ends-clause-many c =
     let p = err_from_is_err_and c.from_residual.result c.from_residual.ensures.1 in
     rw (p.1, p.2) (λ e.
     are_more c.args.lambda.now c.args.mu.now c.args.most c.part.result c.parts.result.now
-        c.degree.ensures.held.partition
+    c.degree.ensures.held.partition
     c.part.ensures.value c.parts.ensures.parts
     (subst (λ n. c.args.most < n + length (chains c.args.lambda.now c.args.lambda.now c.part.result c.parts.result.now))
     (ap length c.new-ends.ensures.items) (c.push_ends.ensures.many (c.in_err-push_ends.was ∙ err_same _ _ e))))
@@ -21,7 +21,7 @@ pub returns-clause-pairs : goal.returns-clause-pairs
 returns-clause-pairs c =
     let ends : c.push_ends.new.ends.items
     ≡ map (end_from c.args.lambda.now) (chains c.args.lambda.now c.args.lambda.now
-        (part c.args.mu.now 1) c.args.mu.now) =
+    (part c.args.mu.now 1) c.args.mu.now) =
     c.in_ok-push_ends.ensures.ends
     ∙ ap (λ xs. xs ++ map (end_from c.args.lambda.now) (chains c.args.lambda.now c.args.lambda.now c.part.result
     c.parts.result.now)) c.new-ends.ensures.items

@@ -23,13 +23,13 @@ push_strips-requires-clause-spared c =
 pub push_strips-requires-clause-held : goal.push_strips-requires-clause-held
 push_strips-requires-clause-held c =
     subst (λ front. AreHeld front (strips c.as_slice.result.now (c.part.result
-        + c.args.count) c.args.spare c.args.count))
+    + c.args.count) c.args.spare c.args.count))
     (sym c.new-front.ensures)
     (subst (AreHeld [])
     (sym (ap₂ (λ rows top. strips rows (top + c.args.count) c.args.spare c.args.count)
     (c.as_slice.ensures.value ∙ c.rows-rows.ensures) c.part.ensures.value))
     (listed_held c.args.before.now c.args.last.now c.args.spare c.args.count c.requires.room.held.partition
-        c.requires.small))
+    c.requires.small))
 
 pub returns : goal.returns
 returns c =
