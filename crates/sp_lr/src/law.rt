@@ -1,13 +1,17 @@
 // The law of fillings.
-ghost use Rattle.std.specs.Prelude.{List, ℕ, ◌++◌};
+ghost use Rattle.std.specs.Prelude.{◌≡◌, List, ℕ, ◌++◌, length};
 ghost use Rattle.sp_defs.specs.Partition.{IsPartition};
-ghost use Rattle.sp_lr_defs.specs.Filling.{IsChain};
+ghost use Rattle.sp_lr_defs.specs.Filling.{IsChain, IsFilling, chain_of};
 
 /// For all partitions: the chain of each filling with the first parts of mu as content begins the chain of a filling
 /// with all of them. So a search that adds one number after the other never has to turn back, and where it has found
-/// more chains than it may on the way, there are more in the end. It takes and answers nothing: its contract is the
-/// theorem.
+/// more chains than it may on the way, there are more in the end. And no two fillings have one chain. It takes and
+/// answers nothing: its contract is the theorem.
 pub fn filling_law()
-    ensures { (lambda mu later : List ℕ) (chain : List (List ℕ)) → IsPartition lambda → IsPartition (mu ++ later) →
-        IsChain lambda mu chain → (more : List (List ℕ)) × IsChain lambda (mu ++ later) (chain ++ more) }
+    ensures extended { (lambda mu later : List ℕ) (chain : List (List ℕ)) → IsPartition lambda →
+        IsPartition (mu ++ later) → IsChain lambda mu chain →
+        (more : List (List ℕ)) × IsChain lambda (mu ++ later) (chain ++ more) }
+    ensures one { (lambda mu nu other : List ℕ) (rows others : List (List ℕ)) → IsPartition lambda →
+        IsFilling lambda mu nu rows → IsFilling lambda mu other others →
+        chain_of lambda (length mu) rows ≡ chain_of lambda (length mu) others → (nu ≡ other) × (rows ≡ others) }
 {}

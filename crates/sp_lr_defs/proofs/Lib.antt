@@ -7,3 +7,4 @@ pub mod Strips
 pub mod Built
 pub mod Backward
 pub mod Extending
+pub mod Unique
