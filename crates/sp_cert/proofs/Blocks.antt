@@ -12,21 +12,12 @@ use Rattle.sp_defs.specs.Statements.{SameContent}
 use Rattle.sp_lists.proofs.Elements.{le_or_lt, tests_all, all_tests, all_filter, all_flat, all_every}
 use Rattle.sp_lists.proofs.Places.{all_at, all_weaken}
 use Rattle.sp_lists.proofs.Occurrence.{Occurs, occurs_filter}
-use Rattle.sp_shapes.proofs.Order.{less_trans, equal_self}
+use Rattle.sp_shapes.proofs.Order.{ascends_at, less_trans, equal_self}
 use Rattle.sp_shapes.proofs.Listing.{all_regulars, each_regular, regulars_ascend, Ascending-filter}
 use Rattle.std.proofs.lemmas.Bool.{eqb-true, eq-eqb}
 use Rattle.sp_cert.specs.Order.{same_content, block_of, leaders, columns_of}
 
 -- ---- lists that ascend
-
--- elements of an ascending list ascend by places
-pub ascends_at : (list : List (List ℕ)) → Ascending list → (i j : ℕ) → i < j → j < length list →
-    IsEarlier (get_or list i []) (get_or list j [])
-ascends_at [] h i j lt within = absurd (omega arith)
-ascends_at (p ∷ list) h zero zero lt within = absurd (omega arith)
-ascends_at (p ∷ list) h (suc i) zero lt within = absurd (omega arith)
-ascends_at (p ∷ list) (h, hs) zero (suc j) lt within = all_at (IsEarlier p) list j [] h (omega arith)
-ascends_at (p ∷ list) (h, hs) (suc i) (suc j) lt within = ascends_at list hs i j (omega arith) (omega arith)
 
 not_earlier : (mu : List ℕ) → IsEarlier mu mu → ⊥
 not_earlier mu e = let w : Less ≡ Equal = sym e ∙ equal_self mu in cc

@@ -19,7 +19,8 @@ use Rattle.sp_cert.specs.declared.certificate.Column.{Column}
 use Rattle.sp_cert.specs.Rules.{Listing, IsCertificate}
 use Rattle.sp_cert.specs.Order.{columns_of}
 use Rattle.sp_cert.specs.Checked.{rank_at}
-use Rattle.sp_cert.proofs.Blocks.{ascends_at, IsAmong, IsLower, in_columns, lower_in, all_columns}
+use Rattle.sp_cert.proofs.Blocks.{IsAmong, IsLower, in_columns, lower_in, all_columns}
+use Rattle.sp_shapes.proofs.Order.{ascends_at}
 
 -- an earlier e-regular partition of n has a lower rank
 pub rank_lower : (e n : ℕ) (nu mu : List ℕ) → IsRegularOf e n nu → IsRegularOf e n mu → IsEarlier nu mu →
@@ -50,6 +51,7 @@ ranked e n mu least h = record {
 
 -- ---- the columns of a certificate
 
+-- the partition of a column
 abbrev pub own : Column → List ℕ
 own c = c.mu
 

@@ -11,6 +11,7 @@ use Rattle.sp_defs.specs.Partition.{degree, IsPartitionOf, IsRegularOf}
 use Rattle.sp_defs.specs.Power.{fock_vector, vector_of}
 use Rattle.sp_defs.specs.Row.{regular_row, Row}
 use Rattle.sp_defs.specs.Statements.{SameContent}
+use Rattle.sp_lists.proofs.Places.{all_from}
 use Rattle.sp_lists.proofs.Elements.{le_or_lt, all_append, all_map, all_every}
 use Rattle.sp_lists.proofs.Places.{all_at, all_weaken}
 use Rattle.sp_lists.proofs.Occurrence.{Occurs, contains}
@@ -39,13 +40,6 @@ occurs_from (p ∷ ps) zero zero d le lt = inl refl
 occurs_from (p ∷ ps) zero (suc i) d le lt = inr (occurs_from ps zero i d (omega arith) (omega arith))
 occurs_from (p ∷ ps) (suc start) zero d le lt = absurd (omega arith)
 occurs_from (p ∷ ps) (suc start) (suc i) d le lt = occurs_from ps start i d (omega arith) (omega arith)
-
--- what holds of all holds from a place on
-all_from : {X : Type 0} (P : X → Type 0) (n : ℕ) (xs : List X) → AllByRecursion P xs → AllByRecursion P (drop n xs)
-all_from P zero [] h = h
-all_from P zero (x ∷ xs) h = h
-all_from P (suc n) [] h = h
-all_from P (suc n) (x ∷ xs) (h, hs) = all_from P n xs hs
 
 -- one rank more, above all
 rising_more : (xs : List ℕ) (k : ℕ) → Rising xs → AllByRecursion (λ x. x < k) xs → Rising (xs ++ (k ∷ []))
@@ -156,7 +150,8 @@ module _ (c : Listing) (h : IsCertificate c) (key : Key) (i : ℕ) (entries : Li
     -- a share stands before its column
     before : (s : Share) → s.rank < k → (c.version ≡ 2 → SameContent c.e d.mu (label (key_of c.e c.degree 1) s.rank)) →
         IsShareBefore c h i s.rank
-    before s low content = share_before c h i d lt is s (omega (arith, low, k_is, ap (λ e. rank_of e d.mu) e_is)) content
+    before s low content =
+        share_before c h i d lt is s (omega (arith, low, k_is, ap (λ e. rank_of e d.mu) e_is)) content
 
     has_rank : (s : Share) → IsShareBefore c h i s.rank → HasRank (drop next entries) s.rank
     has_rank s b = contains s.rank (ranks_in (drop next entries))
@@ -192,7 +187,9 @@ module _ (c : Listing) (h : IsCertificate c) (key : Key) (i : ℕ) (entries : Li
     -- ---- what is listed for the shares are their rows
 
     own_label : label key k ≡ d.mu
-    own_label = ap (label key) k_is ∙ (ranked key.e key.degree d.mu (subst (λ e. 2 ≤ e) (sym e_is) h.e_least) own_regular).at
+    own_label =
+        ap (label key) k_is
+        ∙ (ranked key.e key.degree d.mu (subst (λ e. 2 ≤ e) (sym e_is) h.e_least) own_regular).at
 
     listed_are_rows : Same (degree d.mu) (listed_in cs) (regular_row key.e) (factors_at key d.shares)
     listed_are_rows =

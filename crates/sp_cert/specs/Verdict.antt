@@ -18,7 +18,8 @@ use Rattle.sp_cert.specs.declared.fault.CertFault.TheVariants.{Malformed, TooLar
 -- The vector that is listed for a partition, or 0 where there is none.
 unfoldable pub listed_in : List Column → List ℕ → Vector
 listed_in [] nu lambda = []
-listed_in (c ∷ cs) nu lambda = cond (is_eq (compare c.mu nu)) (vector_of c.entries.entries lambda) (listed_in cs nu lambda)
+listed_in (c ∷ cs) nu lambda =
+    cond (is_eq (compare c.mu nu)) (vector_of c.entries.entries lambda) (listed_in cs nu lambda)
 
 -- A column of these is too large: a coefficient of a partial ladder vector of its partition passes the limit, or, at
 -- some partition, the sizes of the ladder vector and of the shares times the listed columns do.

@@ -1,9 +1,9 @@
 // The test of a certificate, column by column.
-ghost use Rattle.std.specs.Prelude.{◌≡◌, ℕ, ◌+◌, ◌<◌, ◌≤◌, ◌^◌, ◌++◌, ◌∷◌, [], length, map, drop, IfOk, OnOk, IfErr};
+ghost use Rattle.std.specs.Prelude.{◌≡◌, ◌+◌, ◌<◌, ◌≤◌, ◌^◌, ◌++◌, ◌∷◌, [], length, map, drop, IfOk, OnOk, IfErr};
 ghost use Rattle.std.specs.List.{AllByRecursion};
 ghost use Rattle.sp_defs.specs.Partition.{IsRegularOf};
 ghost use Rattle.sp_llt.specs.Adopting.{Rising};
-ghost use Rattle.sp_llt.specs.Place.{key_of, label, labels, place as place_of};
+ghost use Rattle.sp_llt.specs.Place.{key_of, label, labels};
 ghost use Rattle.sp_llt.specs.Shares.{rank_of};
 ghost use Rattle.sp_cert.specs.Checked.{IsChecked, IsStart, ranks_in, entry_for};
 ghost use Rattle.sp_cert.specs.Verdict.{IsAccepted, IsRowColumn, IsCause};
@@ -18,9 +18,9 @@ use std::alloc::Global;
 ///
 /// The first column that fails decides. It is too large where a coefficient of a partial ladder vector of its partition
 /// passes the limit or, at some partition, the size of the ladder vector's coefficient and the products of the sizes of
-/// the shares and of what is listed for their columns sum up to more. Otherwise it is wrong where the ladder vector isn't
-/// the sum of its entries and of its shares times the listed columns, its entry at its own partition isn't 1, another
-/// entry isn't in vZ[v], or a share isn't bar-invariant. It never answers `Malformed`.
+/// the shares and of what is listed for their columns sum up to more. Otherwise it is wrong where the ladder vector
+/// isn't the sum of its entries and of its shares times the listed columns, its entry at its own partition isn't 1,
+/// another entry isn't in vZ[v], or a share isn't bar-invariant. It never answers `Malformed`.
 pub fn check(alloc: Global, certificate: &Certificate, limit: u128) -> Result<Vec<Entry>, CertFault>
     requires least { 1 ≤ limit }
     requires most { limit < 2 ^ 127 }

@@ -10,17 +10,17 @@ use sp_partition::Partition;
 use std::alloc::{AllocError, Global};
 
 // Appends a word and a number, as a line.
-pub(crate) fn put_number_line(out: &mut Vec<u8>, word: &[u8], number: u8) -> Result<(), AllocError>
+pub(crate) fn put_number_line(word: &[u8], number: u8, out: &mut Vec<u8>) -> Result<(), AllocError>
     ensures { OnOk result (out.new.items ≡ out.old.items ++ number_line word.now number) }
 {
     out.extend_from_slice(word)?;
     out.extend_from_slice(b" ")?;
-    put_number(out, number)?;
+    put_number(number, out)?;
     out.push(b'\n')?;
     Ok(())
 }
 
-fn put_number(out: &mut Vec<u8>, number: u8) -> Result<(), AllocError>
+fn put_number(number: u8, out: &mut Vec<u8>) -> Result<(), AllocError>
     ensures { OnOk result (out.new.items ≡ out.old.items ++ decimal number) }
 {
     let mut digits = Buffer::new();
@@ -28,7 +28,7 @@ fn put_number(out: &mut Vec<u8>, number: u8) -> Result<(), AllocError>
 }
 
 // Appends the line before the block of a partition.
-pub(crate) fn put_block_line(out: &mut Vec<u8>, e: u8, mu: &Partition) -> Result<(), AllocError>
+pub(crate) fn put_block_line(e: u8, mu: &Partition, out: &mut Vec<u8>) -> Result<(), AllocError>
     requires e_least { 2 ≤ e }
     requires e_most { e ≤ 64 }
     ensures { OnOk result (out.new.items ≡ out.old.items ++ block_line e mu.now) }
@@ -37,7 +37,7 @@ pub(crate) fn put_block_line(out: &mut Vec<u8>, e: u8, mu: &Partition) -> Result
     let counts = content(e, mu);
     for count in counts.as_slice() {
         out.extend_from_slice(b" ")?;
-        put_number(out, *count)?;
+        put_number(*count, out)?;
     }
     out.push(b'\n')?;
     Ok(())
@@ -46,8 +46,8 @@ pub(crate) fn put_block_line(out: &mut Vec<u8>, e: u8, mu: &Partition) -> Result
 // Appends the line that names a column.
 pub(crate) fn put_column_line(
     alloc: Global,
-    out: &mut Vec<u8>,
     mu: &Partition,
+    out: &mut Vec<u8>,
 ) -> Result<(), AllocError>
     ensures { OnOk result (out.new.items ≡ out.old.items ++ column_line mu.now) }
 {
@@ -60,10 +60,10 @@ pub(crate) fn put_column_line(
 // Appends a word, a partition and a polynomial, as a line.
 pub(crate) fn put_term_line(
     alloc: Global,
-    out: &mut Vec<u8>,
     word: &[u8],
     lambda: &Partition,
     p: &Laurent,
+    out: &mut Vec<u8>,
 ) -> Result<(), AllocError>
     ensures { OnOk result (out.new.items ≡ out.old.items ++ term_line word.now lambda.now p.now) }
 {

@@ -62,9 +62,9 @@ fn certificate(alloc: Global, ctx: &Ctx, rows: &[Arc<Entry>]) -> Result<Vec<u8>,
 {
     let key = ctx.key();
     let mut text = Vec::new(alloc);
-    put_number_line(&mut text, b"certificate", 2)?;
-    put_number_line(&mut text, b"e", key.e)?;
-    put_number_line(&mut text, b"degree", key.degree)?;
+    put_number_line(b"certificate", 2, &mut text)?;
+    put_number_line(b"e", key.e, &mut text)?;
+    put_number_line(b"degree", key.degree, &mut text)?;
     put_blocks(alloc, ctx, rows, &mut text)?;
     text.extend_from_slice(b"end\n")?;
     Ok(text)
@@ -149,7 +149,7 @@ fn put_block(
 {
     let e = ctx.key().e;
     let mu = &ctx.regulars()[leader];
-    put_block_line(out, e, mu)?;
+    put_block_line(e, mu, out)?;
     for rank in 0..ctx.regulars().len() {
         put_column_if(alloc, ctx, rows, leader, rank, out)?;
     }
@@ -189,16 +189,16 @@ fn put_column(alloc: Global, ctx: &Ctx, entry: &Entry, out: &mut Vec<u8>) -> Res
     ensures { OnOk result (out.new.items ≡
         out.old.items ++ column_text ctx.now.e ctx.now.degree (label ctx.now entry.now.rank)) }
 {
-    put_column_line(alloc, out, entry.mu())?;
+    put_column_line(alloc, entry.mu(), out)?;
     let shares = entry.shares();
     for place in 0..shares.len() {
         let share = &shares[place];
         put_term_line(
             alloc,
-            out,
             b"share ",
             &ctx.regulars()[share.rank],
             &share.alpha,
+            out,
         )?;
     }
     let Some(row) = entry.regular_row() else {
@@ -206,7 +206,7 @@ fn put_column(alloc: Global, ctx: &Ctx, entry: &Entry, out: &mut Vec<u8>) -> Res
     };
     let pairs = row.pairs();
     for place in (0..pairs.len()).rev() {
-        put_term_line(alloc, out, b"entry ", &pairs[place].0, &pairs[place].1)?;
+        put_term_line(alloc, b"entry ", &pairs[place].0, &pairs[place].1, out)?;
     }
     Ok(())
 }

@@ -11,8 +11,8 @@ rank_in-k-requires c =
     let d = c.index-columns-place.result in
     let is = column_at c.args.certificate.now c.columns.result.now c.args.place d c.columns.ensures.value
     c.index-columns-place.is in
-    own_regular c.args.certificate.now c.columns.ensures.held c.args.ctx.now c.args.place c.args.entries.now c.args.start
-    c.requires.checked d c.requires.place is
+    own_regular c.args.certificate.now c.columns.ensures.held c.args.ctx.now c.args.place c.args.entries.now
+    c.args.start c.requires.checked d c.requires.place is
 
 pub adopt-requires-clause-shares : goal.adopt-requires-clause-shares
 adopt-requires-clause-shares c =
@@ -29,7 +29,8 @@ adopt-requires-clause-earlier c =
     let d = c.index-columns-place.result in
     let is = column_at c.args.certificate.now c.columns.result.now c.args.place d c.columns.ensures.value
     c.index-columns-place.is in
-    subst (AreEarlierRows c.args.ctx.now c.rank_in-k.result) (sym (rest_is c.start_below-next.result c.args.entries.now))
+    subst (AreEarlierRows c.args.ctx.now c.rank_in-k.result)
+    (sym (rest_is c.start_below-next.result c.args.entries.now))
     (earlier_rows c.args.certificate.now c.columns.ensures.held c.args.ctx.now c.args.place c.args.entries.now
     c.args.start c.requires.checked d c.requires.place is c.rank_in-k.result c.start_below-next.result
     c.rank_in-k.ensures.rank c.start_below-next.ensures)

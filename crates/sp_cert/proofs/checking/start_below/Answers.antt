@@ -10,7 +10,8 @@ use Rattle.sp_cert.proofs.checking.start_below.Goals as goal
 
 -- with the last rank below k, all ranks that rise to it are
 lower_from : (es : List Place) (start k : ℕ) (last : Place) → start ≤ length es → Rising (ranks_in (drop start es)) →
-    ((d : Place) → last ≡ get_or es (length es - 1) d) → last.rank < k → AllByRecursion (λ p. p.rank < k) (drop start es)
+    ((d : Place) → last ≡ get_or es (length es - 1) d) → last.rank < k →
+    AllByRecursion (λ p. p.rank < k) (drop start es)
 lower_from es start k last within rising at low = all_lower (drop start es) k rising below
   where
     below : (d : Place) (j : ℕ) → j + 1 ≡ length (drop start es) → (get_or (drop start es) j d).rank < k

@@ -9,7 +9,8 @@ use Rattle.sp_cert.proofs.Pieces.{piece_more, all_pieces, flat_map-map}
 use Rattle.sp_cert.proofs.lines.put_block_line.Goals as goal
 
 -- a space and a number behind a text
-both : (now mid new : List ℕ) (k : ℕ) → mid ≡ now ++ codes " " → new ≡ mid ++ decimal k → new ≡ now ++ (codes " " ++ decimal k)
+both : (now mid new : List ℕ) (k : ℕ) → mid ≡ now ++ codes " " → new ≡ mid ++ decimal k →
+    new ≡ now ++ (codes " " ++ decimal k)
 both now mid new k h w = w ∙ ap (λ t. t ++ decimal k) h ∙ append_assoc now (codes " ") (decimal k)
 
 pub loop-count-preserved : goal.loop-count-preserved

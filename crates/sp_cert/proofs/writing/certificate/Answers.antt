@@ -26,8 +26,8 @@ returns-clause-text c =
     ∙ ap (λ t. t ++ number_line (codes "certificate") 2) c.new-text.ensures.items))))
     ∙ ap (λ (k : Key). (((number_line (codes "certificate") 2 ++ number_line (codes "e") k.e)
     ++ number_line (codes "degree") k.degree) ++ blocks) ++ ended (codes "end")) told
-    ∙ five (number_line (codes "certificate") 2) (number_line (codes "e") key.e) (number_line (codes "degree") key.degree)
-    blocks (ended (codes "end"))
+    ∙ five (number_line (codes "certificate") 2) (number_line (codes "e") key.e)
+    (number_line (codes "degree") key.degree) blocks (ended (codes "end"))
 
 pub returns-clause-written : goal.returns-clause-written
 returns-clause-written c =

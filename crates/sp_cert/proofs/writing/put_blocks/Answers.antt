@@ -23,5 +23,6 @@ loop-rank-preserved c =
     (sym (get_or_default (labels key) rank mu [] lt)) c.loop-rank.invariant
     (c.in_ok-put_block_if.ensures
     ∙ ap
-    (λ zs. c.loop-rank.out.items ++ cond (not (list_any (same_content key.e mu) zs)) (block_text key.e key.degree mu) [])
+    (λ zs.
+    c.loop-rank.out.items ++ cond (not (list_any (same_content key.e mu) zs)) (block_text key.e key.degree mu) [])
     (sym (before_place (labels key) rank (regulars_ascend key.e key.degree) lt)))
