@@ -78,10 +78,12 @@ strips_descend (row ∷ rows) above spare left =
 abbrev pub chain_block : List ℕ → List ℕ → List ℕ → List (List (List ℕ))
 chain_block last ns shape = map (λ shapes. shape ∷ shapes) (chains last shape 0 ns)
 
+-- with no size there is the empty chain
 pub chains-nil : (before last : List ℕ) (spare : ℕ) → chains before last spare [] ≡ [] ∷ []
 unfolding chains
 chains-nil before last spare = refl
 
+-- with a size a chain goes on by each partition of the strip
 pub chains-cons : (before last : List ℕ) (spare n : ℕ) (ns : List ℕ) →
     chains before last spare (n ∷ ns) ≡ flat_map (chain_block last ns) (strips_after before last spare n)
 unfolding chains

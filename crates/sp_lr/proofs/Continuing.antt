@@ -23,10 +23,12 @@ use Rattle.sp_lr.proofs.ChainLists.{chain_block, chains-cons, chains-nil}
 abbrev pub later : List ℕ → List ℕ
 later sizes = take (length sizes - 1) (drop 1 sizes)
 
+-- sizes are a first one and the others
 pub split_sizes : (sizes : List ℕ) → 1 ≤ length sizes → sizes ≡ slice_index sizes 0 ∷ later sizes
 split_sizes [] h = absurd (omega arith)
 split_sizes (size ∷ sizes) h = ap (λ xs. size ∷ xs) (sym (rest-cons size sizes))
 
+-- with some sizes a chain goes on by each partition of the first strip
 pub chains_split : (before last : List ℕ) (spare : ℕ) (sizes : List ℕ) → 1 ≤ length sizes →
     chains before last spare sizes
     ≡ flat_map (chain_block last (later sizes)) (strips_after before last spare (slice_index sizes 0))

@@ -140,17 +140,21 @@ head rows = slice_index_or rows 0 (record { length = 0; gained = 0 })
 abbrev pub rest : List Row → List Row
 rest rows = take (length rows - 1) (drop 1 rows)
 
+-- rows are a first one and the others
 pub split_rows : (rows : List Row) → 1 ≤ length rows → rows ≡ head rows ∷ rest rows
 split_rows [] h = absurd (omega arith)
 split_rows (row ∷ rows) h = ap (λ xs. row ∷ xs) (sym (rest-cons row rows))
 
+-- rows that fall, one by one
 pub falls_split : (above : ℕ) (rows : List Row) → 1 ≤ length rows → Falls above rows →
     ((head rows).length ≤ above) × Falls (head rows).length (rest rows)
 falls_split above rows h f = subst (Falls above) (split_rows rows h) f
 
+-- what all rows have more, one by one
 pub gained_split : (rows : List Row) → 1 ≤ length rows → all_gained rows ≡ (head rows).gained + all_gained (rest rows)
 gained_split rows h = ap all_gained (split_rows rows h)
 
+-- with some rows the strips are the rounds over the first
 pub strips_split : (rows : List Row) (above spare left : ℕ) → 1 ≤ length rows →
     strips rows above spare left ≡ blocks (head rows) (rest rows) spare left (end_of (head rows) above spare left)
 strips_split rows above spare left h =

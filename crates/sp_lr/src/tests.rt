@@ -66,6 +66,19 @@ fn too_many_from_the_eighth_on(rt: HostRuntime) -> Result<(), Fail> {
 }
 
 #[test]
+fn product_of_4_2_and_3_2_1(rt: HostRuntime) -> Result<(), Fail> {
+    let lambda = Partition::from_parts(&[4, 2]).unwrap_or_default();
+    let mu = Partition::from_parts(&[3, 2, 1]).unwrap_or_default();
+    assert!(rt; product(rt.alloc(), &lambda, &mu, 35).is_err());
+    let pairs = product(rt.alloc(), &lambda, &mu, 36).expect(&rt, "a product");
+    assert_eq!(rt; pairs.len(), 27);
+    assert_eq!(rt; pairs[0].0.parts(), [7, 4, 1].as_slice());
+    assert_eq!(rt; pairs[8].0.parts(), [6, 3, 2, 1].as_slice());
+    assert_eq!(rt; pairs[8].1, 3);
+    Ok(())
+}
+
+#[test]
 fn products_with_nothing(rt: HostRuntime) -> Result<(), Fail> {
     let empty = Partition::empty();
     let three = Partition::from_parts(&[3]).unwrap_or_default();
