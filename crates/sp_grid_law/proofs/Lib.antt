@@ -1,0 +1,9 @@
+pub mod Sums
+pub mod Matrices
+pub mod Solutions
+pub mod Tabulated
+pub mod SparseSums
+pub mod Bounds
+pub mod Lines
+pub mod Columns
+pub mod InverseLaw
