@@ -1,0 +1,5 @@
+pub mod Products
+pub mod Gathered
+pub mod Brought
+pub mod Found
+pub mod Weights

@@ -1,0 +1,4 @@
+pub mod Restriction
+pub mod Balanced
+pub mod Commutator
+pub mod Marks

@@ -1,0 +1,2 @@
+//! Restriction of vectors, and its relation to induction.
+#![tactic(auto)]
