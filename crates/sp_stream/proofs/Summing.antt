@@ -1,14 +1,14 @@
 -- What texts sum up to, one after the other.
-use Rattle.std.proofs.Common.{◌≡◌, ◌≤◌, ◌+◌, ◌*◌, ◌^◌, ◌++◌, [], ◌∷◌, List, ℕ, Bool, true, false, cond, length}
+use Rattle.std.proofs.Common.{◌≡◌, ◌≤◌, ◌+◌, ◌++◌, [], ◌∷◌, List, ℕ, true, false, cond, length}
 use Rattle.std.proofs.Common.{append-nil, append_assoc, length-append, arith, ap, ap₂, sym, ◌∙◌, refl, subst}
 use Rattle.std.specs.List.{concat, count_by, sum}
 use Rattle.std.proofs.lemmas.List.Folds.{concat-append}
 use Rattle.std.proofs.lemmas.List.Sums.{sum_by-append, sum_by-cons}
 use Rattle.sp_stream.specs.declared.lines.TheConstants.{NEWLINE}
 use Rattle.sp_stream.specs.declared.summary.Summary.{Summary}
-use Rattle.sp_stream.specs.Lines.{IsOneLine, begun_line, lines_of, unless_empty, whole_lines}
+use Rattle.sp_stream.specs.Lines.{IsOneLine, lines_of, unless_empty}
 use Rattle.sp_stream.specs.Summary.{IsSumOf, IsWith, IsWithin, summary_of, tells_error}
-use Rattle.sp_stream.specs.Transcript.{Rules, replies, state_after, texts_of, transcript}
+use Rattle.sp_stream.specs.Transcript.{Rules, replies, state_after, transcript}
 use Rattle.sp_stream.proofs.Cutting.{begun_line-line, begun_line-one_line, whole_lines-line, whole_lines-one_line}
 
 -- ---- texts

@@ -2,7 +2,7 @@ use Rattle.std.proofs.Common.{◌≡◌, ◌+◌, ◌-◌, ◌++◌, ◌∷◌, 
 use Rattle.std.proofs.Common.{sym, ◌∙◌, subst}
 use Rattle.std.proofs.lemmas.Grind.{common_steps}
 use Rattle.sp_stream.specs.declared.lines.TheConstants.{NEWLINE}
-use Rattle.sp_stream.specs.Lines.{IsOneLine, unless_empty}
+use Rattle.sp_stream.specs.Lines.{unless_empty}
 use Rattle.sp_stream.specs.Summary.{IsSumOf, IsWith}
 use Rattle.sp_stream.specs.Transcript.{Rules, replies, state_after}
 use Rattle.sp_stream.proofs.Cutting.{first_newline}
