@@ -12,3 +12,11 @@ pub mod RowColumns
 pub mod Visible
 pub mod Answered
 pub mod WrittenLines
+pub mod Residues
+pub mod Growing
+pub mod Named
+pub mod Counting
+pub mod Splitting
+pub mod Heading
+pub mod Spelled
+pub mod Advancing

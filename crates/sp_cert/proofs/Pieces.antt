@@ -8,7 +8,7 @@ use Rattle.std.proofs.Math.Seq.{take-length}
 use Rattle.sp_lists.proofs.Elements.{filter_append}
 
 -- one piece more
-pub piece_more : {X : Type 0} (f : X → List ℕ) (front now new : List ℕ) (xs : List X) (i : ℕ) (x : X) →
+pub piece_more : {X Y : Type 0} (f : X → List Y) (front now new : List Y) (xs : List X) (i : ℕ) (x : X) →
     i < length xs → x ≡ get_or xs i x → now ≡ front ++ flat_map f (take i xs) → new ≡ now ++ f x →
     new ≡ front ++ flat_map f (take (i + 1) xs)
 piece_more f front now new xs i x lt is so_far more =
@@ -19,10 +19,10 @@ piece_more f front now new xs i x lt is so_far more =
     (sym (take_more xs i x lt ∙ ap (λ y. take i xs ++ (y ∷ [])) (sym is)))
 
 -- the pieces of the elements that pass a test, one element more
-pub passed_more : {X : Type 0} (f : X → List ℕ) (t : X → Bool) (front now new : List ℕ) (xs : List X) (i : ℕ) (x : X) →
-    i < length xs → x ≡ get_or xs i x → now ≡ front ++ flat_map f (filter t (take i xs)) →
+pub passed_more : {X Y : Type 0} (f : X → List Y) (t : X → Bool) (front now new : List Y) (xs : List X) (i : ℕ)
+    (x : X) → i < length xs → x ≡ get_or xs i x → now ≡ front ++ flat_map f (filter t (take i xs)) →
     new ≡ now ++ cond (t x) (f x) [] → new ≡ front ++ flat_map f (filter t (take (i + 1) xs))
-passed_more {X} f t front now new xs i x lt is so_far more =
+passed_more {X} {Y} f t front now new xs i x lt is so_far more =
     more
     ∙ ap (λ s. s ++ cond (t x) (f x) []) so_far
     ∙ append_assoc front (flat_map f (filter t (take i xs))) (cond (t x) (f x) [])
@@ -37,19 +37,19 @@ passed_more {X} f t front now new xs i x lt is so_far more =
     one false = refl
 
 -- pieces of images
-pub flat_map-map : {X Y : Type 0} (f : Y → List ℕ) (g : X → Y) (xs : List X) →
+pub flat_map-map : {X Y Z : Type 0} (f : Y → List Z) (g : X → Y) (xs : List X) →
     flat_map f (map g xs) ≡ flat_map (λ x. f (g x)) xs
 flat_map-map f g [] = refl
 flat_map-map f g (x ∷ xs) = ap (λ s. f (g x) ++ s) (flat_map-map f g xs)
 
 -- all pieces
-pub all_pieces : {X : Type 0} (f : X → List ℕ) (front now : List ℕ) (xs : List X) (i : ℕ) → i ≡ length xs →
+pub all_pieces : {X Y : Type 0} (f : X → List Y) (front now : List Y) (xs : List X) (i : ℕ) → i ≡ length xs →
     now ≡ front ++ flat_map f (take i xs) → now ≡ front ++ flat_map f xs
 all_pieces f front now xs i end h =
     h ∙ ap (λ ys. front ++ flat_map f ys) (ap (λ j. take j xs) end ∙ take-length xs)
 
 -- all pieces of those that pass
-pub all_passed : {X : Type 0} (f : X → List ℕ) (t : X → Bool) (front now : List ℕ) (xs : List X) (i : ℕ) →
+pub all_passed : {X Y : Type 0} (f : X → List Y) (t : X → Bool) (front now : List Y) (xs : List X) (i : ℕ) →
     i ≡ length xs → now ≡ front ++ flat_map f (filter t (take i xs)) → now ≡ front ++ flat_map f (filter t xs)
 all_passed f t front now xs i end h =
     h ∙ ap (λ ys. front ++ flat_map f (filter t ys)) (ap (λ j. take j xs) end ∙ take-length xs)

@@ -7,3 +7,6 @@ pub mod Polynomials
 pub mod Grammar
 pub mod Failing
 pub mod Written
+pub mod Drafts
+pub mod Stages
+pub mod Told

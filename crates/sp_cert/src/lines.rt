@@ -1,7 +1,8 @@
 // The lines of a certificate.
-ghost use Rattle.std.specs.Prelude.{◌≡◌, ◌++◌, ◌≤◌, OnOk};
+ghost use Rattle.std.specs.Prelude.{◌≡◌, ◌++◌, ◌≤◌, codes, OnOk};
 ghost use Rattle.std.specs.Fmt.{decimal};
-ghost use Rattle.sp_cert.specs.Texts.{number_line, block_line, column_line, term_line};
+ghost use Rattle.sp_defs.specs.Text.{partition_text};
+ghost use Rattle.sp_cert.specs.Texts.{number_line, counts_text, block_line, column_line, term_line};
 
 use itoa::Buffer;
 use sp_laurent::Laurent;
@@ -33,13 +34,23 @@ pub(crate) fn put_block_line(e: u8, mu: &Partition, out: &mut Vec<u8>) -> Result
     requires e_most { e ≤ 64 }
     ensures { OnOk result (out.new.items ≡ out.old.items ++ block_line e mu.now) }
 {
+    put_block(out, e, mu)?;
+    out.push(b'\n')?;
+    Ok(())
+}
+
+// The same, without its newline.
+pub(crate) fn put_block(out: &mut Vec<u8>, e: u8, mu: &Partition) -> Result<(), AllocError>
+    requires e_least { 2 ≤ e }
+    requires e_most { e ≤ 64 }
+    ensures { OnOk result (out.new.items ≡ out.old.items ++ (codes "block" ++ counts_text e mu.now)) }
+{
     out.extend_from_slice(b"block")?;
     let counts = content(e, mu);
     for count in counts.as_slice() {
         out.extend_from_slice(b" ")?;
         put_number(*count, out)?;
     }
-    out.push(b'\n')?;
     Ok(())
 }
 
@@ -51,9 +62,21 @@ pub(crate) fn put_column_line(
 ) -> Result<(), AllocError>
     ensures { OnOk result (out.new.items ≡ out.old.items ++ column_line mu.now) }
 {
+    put_column(alloc, out, mu)?;
+    out.push(b'\n')?;
+    Ok(())
+}
+
+// The same, without its newline.
+pub(crate) fn put_column(
+    alloc: Global,
+    out: &mut Vec<u8>,
+    mu: &Partition,
+) -> Result<(), AllocError>
+    ensures { OnOk result (out.new.items ≡ out.old.items ++ (codes "column " ++ partition_text mu.now)) }
+{
     out.extend_from_slice(b"column ")?;
     mu.print(alloc, out)?;
-    out.push(b'\n')?;
     Ok(())
 }
 

@@ -13,9 +13,9 @@ ghost use Rattle.sp_cert.specs.Order.{same_content, leaders};
 ghost use Rattle.sp_cert.specs.Texts.{certificate_text, column_text, block_text};
 ghost use Rattle.sp_cert.specs.Written.{WrittenFacts};
 
+use crate::contents::{is_leader, is_same_content};
 use crate::lines::{put_block_line, put_column_line, put_number_line, put_term_line};
 use sp_llt::{Ctx, Entry, RowsFault, first_refused};
-use sp_nodes::content;
 use sp_partition::Partition;
 use std::alloc::{AllocError, Global};
 use std::sync::Arc;
@@ -103,34 +103,10 @@ fn put_block_if(
         cond (not (list_any (same_content ctx.now.e (label ctx.now rank)) (take rank (labels ctx.now))))
         (block_text ctx.now.e ctx.now.degree (label ctx.now rank)) []) }
 {
-    if is_leader(ctx, rank) {
+    if is_leader(ctx.key().e, ctx.regulars(), rank) {
         put_block(alloc, ctx, rows, rank, out)?;
     }
     Ok(())
-}
-
-// Whether no earlier partition has the content of that of the rank.
-fn is_leader(ctx: &Ctx, rank: usize) -> bool
-    requires { rank < length (labels ctx.now) }
-    ensures { result ≡ not (list_any (same_content ctx.now.e (label ctx.now rank)) (take rank (labels ctx.now))) }
-{
-    let e = ctx.key().e;
-    let mu = &ctx.regulars()[rank];
-    for earlier in 0..rank {
-        if is_same_content(e, mu, &ctx.regulars()[earlier]) {
-            return false;
-        }
-    }
-    true
-}
-
-// Whether two partitions have as many nodes of each residue.
-fn is_same_content(e: u8, mu: &Partition, nu: &Partition) -> bool
-    requires e_least { 2 ≤ e }
-    requires e_most { e ≤ 64 }
-    ensures { result ≡ same_content e mu.now nu.now }
-{
-    content(e, mu).as_slice() == content(e, nu).as_slice()
 }
 
 // Appends the block of a partition.
