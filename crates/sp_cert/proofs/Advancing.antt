@@ -1,6 +1,6 @@
 -- What is held behind one line more.
 use Rattle.std.proofs.Common.{◌≡◌, ℕ, suc, ◌+◌, ◌<◌, ◌≤◌, Bool, true, false, cond, List, [], ◌∷◌, ◌++◌, map, flat_map}
-use Rattle.std.proofs.Common.{length, get_or, take, drop, refl, sym, ◌∙◌, ap, ap₂, subst, arith, Option, Some, None, Vec, Global}
+use Rattle.std.proofs.Common.{length, get_or, take, drop, sym, ◌∙◌, ap, ap₂, subst, arith, Option, Some, None, Vec, Global}
 use Rattle.std.specs.List.{AllByRecursion}
 use Rattle.std.specs.Option.{option_map}
 use Rattle.std.proofs.lemmas.List.{get_or-map, length-map, map-append}
@@ -12,11 +12,10 @@ use Rattle.sp_cert.specs.declared.heads.Head.{Head as HeldHead}
 use Rattle.sp_cert.specs.declared.draft.Header.{Header}
 use Rattle.sp_cert.specs.declared.draft.Begun.{Begun}
 use Rattle.sp_cert.specs.declared.draft.Draft.{Draft}
-use Rattle.sp_cert.specs.Order.{columns_of}
-use Rattle.sp_cert.specs.Rules.{Listing, listing, IsCertificate, IsListedColumn}
-use Rattle.sp_cert.specs.Grammar.{Head, BlockHead, heads_of, Body, begun_columns, begun_list, column_begun, behind_head}
-use Rattle.sp_cert.specs.Grammar.{Answer, Allowed, Ends, NotAllowed, Columns, head_answer, end_answer, head_text, is_text}
-use Rattle.sp_cert.specs.Drafts.{IsHeader, IsDraft, IsBegun, IsBegunOrNone, column_of, head_of, body_of, named, draft_answer}
+use Rattle.sp_cert.specs.Rules.{listing, IsCertificate, IsListedColumn}
+use Rattle.sp_cert.specs.Grammar.{Head, BlockHead, begun_columns, begun_list, column_begun, behind_head}
+use Rattle.sp_cert.specs.Grammar.{Allowed, NotAllowed, Columns, head_answer, end_answer, head_text, is_text}
+use Rattle.sp_cert.specs.Drafts.{IsDraft, IsBegun, IsBegunOrNone, column_of, head_of, body_of, named}
 use Rattle.sp_cert.proofs.Named.{all_named, named_regular, named_more}
 
 -- ---- the heads that are awaited

@@ -1,23 +1,22 @@
 -- A column that grows by a share or an entry keeps its rules.
-use Rattle.std.proofs.Common.{◌≡◌, ◌≢◌, ℕ, ◌+◌, ◌-◌, ◌<◌, ◌≤◌, Bool, true, false, nat_eq, nat_lt, ◌&&◌, ◌||◌, List, []}
-use Rattle.std.proofs.Common.{◌∷◌, ◌++◌, map, length, get_or, reverse, refl, sym, ◌∙◌, ap, subst, arith, ◌⊎◌, inl, inr}
+use Rattle.std.proofs.Common.{◌≡◌, ◌≢◌, ℕ, ◌-◌, ◌<◌, ◌≤◌, Bool, true, false, nat_eq, nat_lt, ◌&&◌, ◌||◌, List, []}
+use Rattle.std.proofs.Common.{◌∷◌, ◌++◌, map, length, reverse, refl, sym, ◌∙◌, ap, subst, arith}
 use Rattle.std.proofs.Common.{suc, Some, Vec, Global, Ordering, Less, Equal, Greater}
 use Rattle.std.proofs.lemmas.Bool.{and_parts, ltb-true}
 use Rattle.std.proofs.lemmas.List.{map-append, reverse-append}
 use Rattle.std.specs.List.{AllByRecursion, slice_get}
 use Rattle.std.specs.Ordering.{is_lt}
 use Rattle.sp_defs.specs.Laurent.{Laurent}
-use Rattle.sp_defs.specs.Partition.{degree, compare, IsEarlier, Ascending, IsPartitionOf, IsRegularOf, is_regular, regulars}
-use Rattle.sp_defs.specs.Power.{Entries, IsVector}
+use Rattle.sp_defs.specs.Partition.{degree, compare, IsEarlier, Ascending, IsPartitionOf, IsRegularOf, is_regular}
+use Rattle.sp_defs.specs.Power.{Entries}
 use Rattle.sp_defs.specs.Statements.{SameContent}
 use Rattle.sp_defs.specs.Within.{PowersWithin}
 use Rattle.sp_laurent.specs.Readable.{IsReadable, read_limit}
-use Rattle.sp_laurent.specs.Held.{IsHeld as IsHeldPolynomial, power_limit}
 use Rattle.sp_partition.specs.Held.{IsHeld as IsHeldPartition}
 use Rattle.sp_partition.specs.declared.TheConstants.{CAPACITY, DEGREE_LIMIT}
-use Rattle.sp_fock.specs.Held.{IsHeld, ArePairs}
+use Rattle.sp_fock.specs.Held.{IsHeld}
 use Rattle.sp_laurent.proofs.Terms.{readable_held}
-use Rattle.sp_lists.proofs.Elements.{all_append, all_every}
+use Rattle.sp_lists.proofs.Elements.{all_append}
 use Rattle.sp_lists.proofs.Places.{all_weaken}
 use Rattle.sp_shapes.proofs.Order.{less_trans}
 use Rattle.sp_llt.specs.declared.share.Share.{Share}
@@ -29,11 +28,11 @@ use Rattle.sp_cert.specs.declared.draft.Header.{Header}
 use Rattle.sp_cert.specs.declared.draft.Begun.{Begun}
 use Rattle.sp_cert.specs.Drafts.{IsHeader, IsBegun, column_of}
 use Rattle.sp_cert.specs.Order.{same_content}
-use Rattle.sp_cert.specs.Rules.{HasOneContent, IsListedColumn}
+use Rattle.sp_cert.specs.Rules.{IsListedColumn}
 use Rattle.sp_cert.specs.Grammar.{last_rank, is_below, has_no_entry, has_content, is_next_share, is_next_entry}
 use Rattle.sp_cert.specs.Grammar.{with_share, with_entry, new_column}
 use Rattle.sp_cert.proofs.Residues.{contents_same}
-use Rattle.sp_cert.proofs.Ranking.{IsRanked, ranked}
+use Rattle.sp_cert.proofs.Ranking.{ranked}
 
 -- ---- ranks that fall
 
@@ -174,9 +173,11 @@ below_all : (lambda : List ℕ) (es : Entries) → is_below lambda es ≡ true �
     AllByRecursion (IsEarlier lambda) (map (λ t. t.0) es)
 below_all lambda [] h up = tt
 below_all lambda (t ∷ es) h (u, us) =
-    let lt = earlier_test lambda t.0 h in
-    (lt, all_weaken (IsEarlier t.0) (IsEarlier lambda) (map (λ t. t.0) es)
-    (λ x later. less_trans lambda t.0 x lt later) u)
+    let lt = earlier_test lambda t.0 h in (
+      lt,
+      all_weaken (IsEarlier t.0) (IsEarlier lambda) (map (λ t. t.0) es)
+          (λ x later. less_trans lambda t.0 x lt later) u,
+    )
 
 -- A vector with one entry more in front, at a partition below all, is held.
 pub entry_held : (n : ℕ) (es : Entries) (lambda : List ℕ) (p : Laurent) → n ≤ DEGREE_LIMIT →

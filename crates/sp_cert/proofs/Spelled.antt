@@ -1,16 +1,13 @@
 -- What is known of a partition and a polynomial that words write.
-use Rattle.std.proofs.Common.{◌≡◌, ◌≢◌, ℕ, ◌&&◌, nat_eq, Bool, true, false, cond, List, [], ◌∷◌, length, refl, sym, ◌∙◌, ap}
+use Rattle.std.proofs.Common.{◌≡◌, ◌≢◌, ℕ, List, [], ◌∷◌, length, refl, ◌∙◌, ap}
 use Rattle.std.proofs.Common.{subst, arith, Option, Some, None}
-use Rattle.std.specs.Option.{option_map, option_and_then}
-use Rattle.std.proofs.lemmas.Bool.{and_parts, eqb-true}
+use Rattle.std.specs.Option.{option_and_then}
 use Rattle.sp_defs.specs.Laurent.{Laurent}
-use Rattle.sp_defs.specs.Partition.{degree, IsPartition, IsPartitionOf}
-use Rattle.sp_defs.specs.Text.{partition_text, polynomial_text}
+use Rattle.sp_defs.specs.Text.{polynomial_text}
 use Rattle.sp_laurent.specs.Readable.{IsReadable}
-use Rattle.sp_partition.specs.Reading.{partition_of}
 use Rattle.sp_cert.specs.Polynomials.{polynomial_of}
-use Rattle.sp_cert.specs.Grammar.{is_text, partition_with, polynomial_with, unless_zero, term_of}
-use Rattle.sp_cert.proofs.Polynomials.{polynomial_found, polynomial_read, no_polynomial, IsTextOf}
+use Rattle.sp_cert.specs.Grammar.{polynomial_with, unless_zero}
+use Rattle.sp_cert.proofs.Polynomials.{polynomial_found, polynomial_read, no_polynomial}
 
 -- ---- polynomials
 

@@ -1,11 +1,10 @@
 -- The words of a line, one after the other.
-use Rattle.std.proofs.Common.{◌≡◌, ℕ, ◌+◌, ◌<◌, ◌≤◌, List, [], ◌∷◌, take, drop, length, refl, sym, ◌∙◌, ap, subst, arith}
-use Rattle.std.proofs.Common.{Some, None, cond, nat_le, ◌⊎◌, inl, inr, le-leb, Bool, true, false, nat_eq}
-use Rattle.std.proofs.lemmas.Bool.{lt-leb, cond-true, cond-false}
+use Rattle.std.proofs.Common.{◌≡◌, ℕ, ◌+◌, ◌<◌, List, [], ◌∷◌, take, drop, length, refl, ◌∙◌, ap, arith}
+use Rattle.std.proofs.Common.{Some, None, cond, nat_le, le-leb, Bool, true, false, nat_eq}
+use Rattle.std.proofs.lemmas.Bool.{cond-true}
 use Rattle.std.proofs.lemmas.List.{take_all}
-use Rattle.std.specs.List.{slice_split, onto_first}
-use Rattle.sp_partition.specs.Reading.{cut}
-use Rattle.sp_partition.specs.Pieces.{StandsAt, rest_of}
+use Rattle.std.specs.List.{onto_first}
+use Rattle.sp_partition.specs.Pieces.{StandsAt}
 use Rattle.sp_partition.proofs.Marks.{first_piece, pieces_left, rest_some}
 use Rattle.sp_cert.specs.Grammar.{words, two_words, three_words}
 

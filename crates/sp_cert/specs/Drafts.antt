@@ -1,5 +1,5 @@
 -- What a reader holds of the lines that came, and what that says.
-use Rattle.std.specs.Prelude.{◌≡◌, ◌≢◌, ℕ, ◌≤◌, cond, Bool, List, [], ◌∷◌, ◌++◌, map, flat_map, take, drop, length}
+use Rattle.std.specs.Prelude.{◌≡◌, ℕ, ◌≤◌, List, [], ◌∷◌, map, flat_map, take, drop, length}
 use Rattle.std.specs.Prelude.{reverse, filter, Option, None, Some}
 use Rattle.std.specs.List.{AllByRecursion}
 use Rattle.std.specs.Option.{option_map}

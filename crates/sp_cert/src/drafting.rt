@@ -11,12 +11,12 @@ ghost use Rattle.sp_cert.specs.Grammar.{begun_list, column_begun};
 ghost use Rattle.sp_cert.specs.Drafts.{IsHeader, IsDraft, IsBegunOrNone, body_of, column_of, head_of, named};
 ghost use Rattle.sp_cert.specs.Drafts.{draft_answer, whole_answer};
 
-use crate::{Certificate, Column};
 use crate::awaited::heads_of;
 use crate::draft::{Begun, Draft, Header};
 use crate::heads::{Head, is_head};
 use crate::terms::term_of;
 use crate::words::three_words;
+use crate::{Certificate, Column};
 use sp_partition::regular_of;
 use std::alloc::{AllocError, Global};
 
@@ -82,12 +82,7 @@ impl Draft {
             ..
         } = self;
         let columns = closed(header.degree, columns, begun)?;
-        Ok(Some(Certificate::of(
-            header.version,
-            header.e,
-            header.degree,
-            columns,
-        )))
+        Ok(Some(Certificate::of(header.version, header.e, header.degree, columns)))
     }
 
     // A share of the column that was begun last.
@@ -198,11 +193,7 @@ impl Draft {
 }
 
 // All columns that were begun.
-fn closed(
-    degree: u8,
-    columns: Vec<Column>,
-    begun: Option<Begun>,
-) -> Result<Vec<Column>, AllocError>
+fn closed(degree: u8, columns: Vec<Column>, begun: Option<Begun>) -> Result<Vec<Column>, AllocError>
     requires { IfSome begun (λ b. IsHeld (column_of degree b).entries) }
     ensures { IfOk result (λ all. all.items ≡ columns.items ++ begun_list (option_map (column_of degree) begun)) }
 {

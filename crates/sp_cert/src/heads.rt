@@ -17,29 +17,24 @@ pub(crate) enum Head {
 }
 
 /// Whether a line is this one.
-pub(crate) fn is_head(
-    alloc: Global,
-    e: u8,
-    head: &Head,
-    text: &[u8],
-) -> Result<bool, AllocError>
+pub(crate) fn is_head(alloc: Global, e: u8, head: &Head, text: &[u8]) -> Result<bool, AllocError>
     requires e_least { 2 ≤ e }
     requires e_most { e ≤ 64 }
     ensures { IfOk result (λ same. same ≡ is_text text.now (head_text e (head_of head.now))) }
 {
     let mut printed = Vec::new(alloc);
-    put_head(alloc, &mut printed, e, head)?;
+    put_head(alloc, e, head, &mut printed)?;
     Ok(text == printed.as_slice())
 }
 
 // Appends the line, without its newline.
-fn put_head(alloc: Global, out: &mut Vec<u8>, e: u8, head: &Head) -> Result<(), AllocError>
+fn put_head(alloc: Global, e: u8, head: &Head, out: &mut Vec<u8>) -> Result<(), AllocError>
     requires e_least { 2 ≤ e }
     requires e_most { e ≤ 64 }
     ensures { OnOk result (out.new.items ≡ out.old.items ++ head_text e (head_of head.now)) }
 {
     match head {
-        Head::Block(mu) => put_block(out, e, mu),
-        Head::Column(mu) => put_column(alloc, out, mu),
+        Head::Block(mu) => put_block(e, mu, out),
+        Head::Column(mu) => put_column(alloc, mu, out),
     }
 }

@@ -34,13 +34,13 @@ pub(crate) fn put_block_line(e: u8, mu: &Partition, out: &mut Vec<u8>) -> Result
     requires e_most { e ≤ 64 }
     ensures { OnOk result (out.new.items ≡ out.old.items ++ block_line e mu.now) }
 {
-    put_block(out, e, mu)?;
+    put_block(e, mu, out)?;
     out.push(b'\n')?;
     Ok(())
 }
 
 // The same, without its newline.
-pub(crate) fn put_block(out: &mut Vec<u8>, e: u8, mu: &Partition) -> Result<(), AllocError>
+pub(crate) fn put_block(e: u8, mu: &Partition, out: &mut Vec<u8>) -> Result<(), AllocError>
     requires e_least { 2 ≤ e }
     requires e_most { e ≤ 64 }
     ensures { OnOk result (out.new.items ≡ out.old.items ++ (codes "block" ++ counts_text e mu.now)) }
@@ -62,17 +62,13 @@ pub(crate) fn put_column_line(
 ) -> Result<(), AllocError>
     ensures { OnOk result (out.new.items ≡ out.old.items ++ column_line mu.now) }
 {
-    put_column(alloc, out, mu)?;
+    put_column(alloc, mu, out)?;
     out.push(b'\n')?;
     Ok(())
 }
 
 // The same, without its newline.
-pub(crate) fn put_column(
-    alloc: Global,
-    out: &mut Vec<u8>,
-    mu: &Partition,
-) -> Result<(), AllocError>
+pub(crate) fn put_column(alloc: Global, mu: &Partition, out: &mut Vec<u8>) -> Result<(), AllocError>
     ensures { OnOk result (out.new.items ≡ out.old.items ++ (codes "column " ++ partition_text mu.now)) }
 {
     out.extend_from_slice(b"column ")?;

@@ -1,7 +1,3 @@
-use Rattle.std.proofs.Common.{◌≡◌, ◌++◌, ◌∷◌, [], ◌∙◌, sym, ap, map, get_or}
-use Rattle.std.proofs.lemmas.List.{map-append}
-use Rattle.sp_cert.specs.Grammar.{ColumnHead}
-use Rattle.sp_cert.specs.Drafts.{head_of}
 use Rattle.sp_cert.proofs.Heading.{columns_more}
 use Rattle.sp_cert.proofs.awaited.columns_of.Goals as goal
 

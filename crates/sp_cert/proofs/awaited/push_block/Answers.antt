@@ -14,17 +14,17 @@ pub loop-mu-preserved : goal.loop-mu-preserved
 loop-mu-preserved c =
     elim c.if-is_same_content.branch [
       | then-is_same_content+in_ok-push-2 w ↦
-        ap (λ (v : Vec Head Global). map head_of v.items) w.heads-is
-        ∙ block_more c.args.e c.args.leader.now c.args.regulars.now c.loop-mu.mu-index c.mu-item.result
-        (map head_of c.args.heads.now.items) c.loop-mu.heads.items w.push-then-is_same_content.new.self.items
-        c.loop-mu-test.true c.mu-item.is c.loop-mu.invariant
-        (sym c.is_same_content.ensures ∙ w.if-is_same_content.true) w.in_ok-push-2.ensures.items
+          ap (λ (v : Vec Head Global). map head_of v.items) w.heads-is
+          ∙ block_more c.args.e c.args.leader.now c.args.regulars.now c.loop-mu.mu-index c.mu-item.result
+          (map head_of c.args.heads.now.items) c.loop-mu.heads.items w.push-then-is_same_content.new.self.items
+          c.loop-mu-test.true c.mu-item.is c.loop-mu.invariant
+          (sym c.is_same_content.ensures ∙ w.if-is_same_content.true) w.in_ok-push-2.ensures.items
       | else-is_same_content w ↦
-        ap (λ (v : Vec Head Global). map head_of v.items) w.heads-is
-        ∙ block_same c.args.e c.args.leader.now c.args.regulars.now c.loop-mu.mu-index c.mu-item.result
-        (map head_of c.args.heads.now.items) c.loop-mu.heads.items
-        c.loop-mu-test.true c.mu-item.is c.loop-mu.invariant
-        (sym c.is_same_content.ensures ∙ w.if-is_same_content.false)
+          ap (λ (v : Vec Head Global). map head_of v.items) w.heads-is
+          ∙ block_same c.args.e c.args.leader.now c.args.regulars.now c.loop-mu.mu-index c.mu-item.result
+          (map head_of c.args.heads.now.items) c.loop-mu.heads.items
+          c.loop-mu-test.true c.mu-item.is c.loop-mu.invariant
+          (sym c.is_same_content.ensures ∙ w.if-is_same_content.false)
     ]
 
 pub returns : goal.returns

@@ -1,6 +1,4 @@
-use Rattle.std.proofs.Common.{◌≡◌, ◌++◌, ◌∷◌, map, take, filter}
-use Rattle.sp_cert.specs.Order.{same_content}
-use Rattle.sp_cert.specs.Grammar.{BlockHead, ColumnHead}
+use Rattle.std.proofs.Common.{◌≡◌, ◌++◌, map, take}
 use Rattle.sp_cert.specs.Drafts.{head_of, heads_in}
 use Rattle.sp_cert.proofs.awaited.push_block.Given as goal
 

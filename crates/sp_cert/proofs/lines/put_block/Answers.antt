@@ -1,4 +1,4 @@
-use Rattle.std.proofs.Common.{◌≡◌, ℕ, ◌∷◌, [], ◌++◌, codes, List, flat_map, get_or, length}
+use Rattle.std.proofs.Common.{◌≡◌, ℕ, ◌++◌, codes, List, flat_map, get_or, length}
 use Rattle.std.proofs.Common.{sym, ◌∙◌, ap, append_assoc, arith}
 use Rattle.std.specs.Fmt.{decimal}
 use Rattle.std.proofs.lemmas.Grind.{get_or_default_zero}

@@ -1,4 +1,4 @@
-use Rattle.std.proofs.Common.{◌≡◌, ◌∙◌, length, sym, ap, Err}
+use Rattle.std.proofs.Common.{◌∙◌, length, sym, ap, Err}
 use Rattle.std.proofs.lemmas.Bool.{eqb-true, eqb-false}
 use Rattle.sp_cert.proofs.Spelled.{zero_refused, nonzero_read, other_refused}
 use Rattle.sp_cert.proofs.terms.polynomial_with.Goals as goal

@@ -16,11 +16,13 @@ returns-then-not-is_regular c =
     c.args.nu.now (sym c.is_regular.ensures ∙ c.if-not-is_regular.true)
 
 pub returns-then-is_next_share : goal.returns-then-is_next_share
-returns-then-is_next_share c =
-    (sym (share_test c.args.header.now.version c.args.header.now.e c.rank_in-k.result c.args.self.now.rank
-    (column_of c.args.header.now.degree c.args.self.now) c.args.nu.now
-    (sym c.is_regular.ensures ∙ c.if-not-is_regular.false) c.rank_in-k.ensures c.requires.begun.rank)
-    ∙ sym c.is_next_share.ensures ∙ c.if-is_next_share.true, c.rank_in-k.ensures)
+returns-then-is_next_share c = (
+  sym (share_test c.args.header.now.version c.args.header.now.e c.rank_in-k.result c.args.self.now.rank
+      (column_of c.args.header.now.degree c.args.self.now) c.args.nu.now
+      (sym c.is_regular.ensures ∙ c.if-not-is_regular.false) c.rank_in-k.ensures c.requires.begun.rank)
+      ∙ sym c.is_next_share.ensures ∙ c.if-is_next_share.true,
+  c.rank_in-k.ensures,
+)
 
 pub returns-else-is_next_share : goal.returns-else-is_next_share
 returns-else-is_next_share c =

@@ -1,4 +1,4 @@
-use Rattle.std.proofs.Common.{◌<◌, ◌≤◌, ◌∙◌, length, sym, ap, subst, arith}
+use Rattle.std.proofs.Common.{arith}
 use Rattle.sp_cert.proofs.Advancing.{not_whole, whole_certificate}
 use Rattle.sp_cert.proofs.draft.Draft.whole.Goals as goal
 
