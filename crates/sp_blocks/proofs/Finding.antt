@@ -9,7 +9,8 @@ use Rattle.std.proofs.lemmas.List.{length-map, map-append}
 use Rattle.sp_defs.specs.Partition.{order}
 use Rattle.sp_blocks.specs.declared.block.Block.{Block}
 use Rattle.sp_blocks.specs.Indexed.{with_rank, cores, Indexed}
-use Rattle.sp_blocks.proofs.Same.{ToldByOrder, order_tells, passes, fails}
+use Rattle.sp_blocks.proofs.Same.{ToldByOrder, order_tells, passes}
+use Rattle.sp_shapes.proofs.Order.{differ}
 
 -- The block with one rank more.
 abbrev pub longer : Block → ℕ → Block
@@ -24,7 +25,7 @@ at_place kappa rank (b ∷ bs) zero d is only =
     ap (λ v. cond v (longer b rank ∷ bs) (b ∷ with_rank kappa rank bs)) (passes b.core kappa same)
 at_place kappa rank (b ∷ bs) (suc i) d is only =
     ap (λ v. cond v (longer b rank ∷ bs) (b ∷ with_rank kappa rank bs))
-    (fails b.core kappa (λ same. apart i (only zero (ap Some same))))
+    (differ b.core kappa (λ same. apart i (only zero (ap Some same))))
     ∙ ap (λ xs. b ∷ xs) (at_place kappa rank bs i d is (λ j at. less j i (only (suc j) at)))
   where
     apart : (i : ℕ) → 0 ≡ suc i → ⊥
@@ -38,7 +39,7 @@ no_place : (kappa : List ℕ) (rank : ℕ) (bs : List Block) → ((j : ℕ) → 
 no_place kappa rank [] none = refl
 no_place kappa rank (b ∷ bs) none =
     ap (λ v. cond v (longer b rank ∷ bs) (b ∷ with_rank kappa rank bs))
-    (fails b.core kappa (λ same. none zero (ap Some same)))
+    (differ b.core kappa (λ same. none zero (ap Some same)))
     ∙ ap (λ xs. b ∷ xs) (no_place kappa rank bs (λ j. none (suc j)))
 
 -- The place that the map has under a core is that of a block,

@@ -11,7 +11,8 @@ use Rattle.sp_lists.proofs.Places.{all_weaken}
 use Rattle.sp_blocks.specs.declared.block.Block.{Block}
 use Rattle.sp_blocks.specs.Blocks.{has_core, places_with, is_first, blocks_below}
 use Rattle.sp_blocks.specs.Indexed.{with_rank}
-use Rattle.sp_blocks.proofs.Same.{Told, tells, passes, fails}
+use Rattle.sp_blocks.proofs.Same.{Told, tells, passes}
+use Rattle.sp_shapes.proofs.Order.{differ}
 use Rattle.sp_blocks.proofs.Firsts.{kept_more, firsts, any_firsts, Apart, firsts_apart}
 
 module _ (core_of : ℕ → List ℕ) where
@@ -32,7 +33,7 @@ module _ (core_of : ℕ → List ℕ) where
 
   stays : (n k : ℕ) → core_of n ≢ core_of k → block_at n k ≡ block_at (suc n) k
   stays n k ne =
-      sym (gained n k false (fails (core_of n) (core_of k) ne)
+      sym (gained n k false (differ (core_of n) (core_of k) ne)
       ∙ ap (λ ranks. record { core = core_of k; ranks = ranks }) (append-nil (places_with core_of n (core_of k))))
 
   -- The blocks of places with different cores.

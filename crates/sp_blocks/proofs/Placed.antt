@@ -16,7 +16,8 @@ use Rattle.sp_lists.proofs.Counts.{count-cons, count-filter, count-alike}
 use Rattle.sp_lists.proofs.Places.{all_weaken}
 use Rattle.sp_lists.proofs.Sums.{sum-one}
 use Rattle.sp_blocks.specs.Blocks.{has_core, places_with, is_first, blocks_below, ArePlaced}
-use Rattle.sp_blocks.proofs.Same.{Told, tells, passes, fails}
+use Rattle.sp_blocks.proofs.Same.{Told, tells, passes}
+use Rattle.sp_shapes.proofs.Order.{differ}
 use Rattle.sp_blocks.proofs.Firsts.{firsts, any_firsts, Apart, firsts_apart}
 use Rattle.sp_blocks.proofs.OneMore.{block_at, none_at}
 
@@ -134,9 +135,9 @@ module _ (core_of : ℕ → List ℕ) where
           ap₂ (λ v m. cond v 1 0 + m) (passes (core_of k) (core_of f) (sym same))
           (count_zero (λ j. has_core core_of (core_of j) k) fs
           (all_weaken (λ j. core_of j ≢ core_of f) (λ j. has_core core_of (core_of j) k ≡ false) fs
-          (λ j ne. fails (core_of k) (core_of j) (λ e. ne (sym e ∙ sym same))) h))
+          (λ j ne. differ (core_of k) (core_of j) (λ e. ne (sym e ∙ sym same))) h))
       settle (inr (t, ne)) rest =
-          ap₂ (λ v m. cond v 1 0 + m) (fails (core_of k) (core_of f) (λ e. ne (sym e)))
+          ap₂ (λ v m. cond v 1 0 + m) (differ (core_of k) (core_of f) (λ e. ne (sym e)))
           (rest (sym (ap (λ v. v || list_any (has_core core_of (core_of k)) fs) t) ∙ found))
 
   -- The blocks of the places below n.

@@ -36,18 +36,10 @@ pub order_tells : (x y : List ℕ) → ToldByOrder x y
 order_tells x y =
     told (order x y) x y (order_equal x y) (λ e. ap (order x) (sym e) ∙ tied_itself order_total x)
 
--- Equal lists pass the test,
+-- Equal lists pass the test.
 pub passes : (x y : List ℕ) → x ≡ y → is_eq (compare x y) ≡ true
 passes x y e = settle (tells x y)
   where
     settle : Told x y → is_eq (compare x y) ≡ true
     settle (inl (t, _)) = t
     settle (inr (_, ne)) = absurd (ne e)
-
--- others fail it.
-pub fails : (x y : List ℕ) → x ≢ y → is_eq (compare x y) ≡ false
-fails x y ne = settle (tells x y)
-  where
-    settle : Told x y → is_eq (compare x y) ≡ false
-    settle (inl (_, e)) = absurd (ne e)
-    settle (inr (t, _)) = t

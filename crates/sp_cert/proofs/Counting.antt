@@ -1,18 +1,9 @@
 -- Words that say numbers, read up to the greatest byte.
 use Rattle.std.proofs.Common.{◌≡◌, ℕ, true, false, cond, List, [], ◌∷◌, sym, ap, min}
-use Rattle.std.proofs.lemmas.Bool.{and_parts}
 use Rattle.std.specs.Prelude.{Some, None}
-use Rattle.std.specs.Char.{is_digit}
-use Rattle.std.specs.List.{list_all}
 use Rattle.std.specs.Option.{option_map}
-use Rattle.std.specs.Str.Parse.{AllDigits, digits_value}
+use Rattle.std.specs.Str.Parse.{digits_value}
 use Rattle.sp_partition.specs.Reading.{is_number, number_of}
-use Rattle.sp_partition.proofs.Numbers.{passing_digits}
-
--- A number has digits alone.
-pub number_digits : (word : List ℕ) → is_number word ≡ true → AllDigits 10 word
-number_digits [] h = tt
-number_digits (d ∷ ds) h = passing_digits (d ∷ ds) (and_parts (list_all (λ c. is_digit c 10) (d ∷ ds)) _ h).0
 
 -- A number is read.
 pub number-yes : (word : List ℕ) → is_number word ≡ true →

@@ -2,18 +2,15 @@
 use Rattle.std.proofs.Common.{◌≡◌, ℕ, zero, suc, ◌<◌, ◌≤◌, ◌^◌, ◌⊎◌, inl, inr, Bool, true, false, cond, ◌&&◌}
 use Rattle.std.proofs.Common.{nat_eq, nat_le, nat_lt, List, [], ◌∷◌, ◌++◌, codes, flat_map, length, Option, Some, None}
 use Rattle.std.proofs.Common.{ℤ, pos, refl, sym, ◌∙◌, ap, ap₂, subst, arith, append_assoc, append-nil}
-use Rattle.std.specs.Char.{is_ascii_digit}
 use Rattle.std.specs.Cmp.Lexicographic.{pointwise, bytes_decides}
 use Rattle.std.specs.Fmt.{decimal, signed_decimal}
 use Rattle.std.specs.Int.RustNames.{unsigned_abs}
 use Rattle.std.specs.List.{list_all}
 use Rattle.std.specs.Ordering.{int_eq}
 use Rattle.std.specs.Str.Parse.{AllDigits, digits_value}
-use Rattle.std.specs.Char.{digit_value}
 use Rattle.std.specs.Bool.{Decides}
 use Rattle.std.proofs.lemmas.Bool.Decides.{nat_tests, Decides-int_eq}
 use Rattle.std.proofs.lemmas.Slice.Eq.{slice_eq-Decides}
-use Rattle.std.proofs.lemmas.Str.Parse.{digit_from_value}
 use Rattle.sp_defs.specs.Laurent.{Laurent, Term, collect, monomial, size}
 use Rattle.sp_defs.specs.Text.{is_negative, power_text, term_text, signed_term_text, polynomial_text}
 use Rattle.sp_lists.proofs.Elements.{and_split, and_join, all_tests, tests_all}
@@ -21,18 +18,15 @@ use Rattle.sp_lists.proofs.Places.{all_weaken}
 use Rattle.sp_algebra.proofs.Coefficients.{by_eq}
 use Rattle.sp_laurent.specs.Readable.{IsReadable, read_limit}
 use Rattle.sp_laurent.specs.Pieces.{IsPlain, IsSigned, behind_mark, power_part, IsSmall, Begins}
-use Rattle.sp_laurent.proofs.Fronts.{numeral, sign_plain}
+use Rattle.sp_laurent.proofs.Fronts.{digit_test, numeral, sign_plain}
 use Rattle.sp_laurent.proofs.Reading.{Minus, Number, whole_read, signed_is, factor_one, factor_counted}
-use Rattle.sp_laurent.proofs.Reading.{power_plain, sign_plus, sign_other, rest_shorter}
+use Rattle.sp_laurent.proofs.Reading.{power_plain, sign_plus, sign_other, rest_shorter, some_none, some_same}
 use Rattle.sp_laurent.proofs.Terms.{Left, Next, first_next, later_next, left_after, left_none}
 use Rattle.sp_cert.specs.Polynomials.{digits_in, behind_digits, number_in, marked, minus_in, with_sign, integer_in}
 use Rattle.sp_cert.specs.Polynomials.{sign_in, factor_in, exponent_in, power_in, unsigned_in, term_in, terms_in}
 use Rattle.sp_cert.specs.Polynomials.{same_term, is_readable, where_written, polynomial_of}
 
 -- ---- numbers in front
-
-digit_test : (c : ℕ) → digit_value c < 10 → is_ascii_digit c ≡ true
-digit_test c h = let range = digit_from_value c h in grind (arith, nat_tests)
 
 -- The digits in front of a text, and what stands behind them.
 record Digits (text digits rest : List ℕ) : Type 0 where
@@ -253,12 +247,6 @@ readable_decides p = (one_way, other_way)
         (λ t le. grind (arith, nat_tests)) h.powers)))
 
 -- ---- polynomials
-
-some_same : {X : Type 0} {x y : X} → Some x ≡ Some y → x ≡ y
-some_same e = cc
-
-some_none : {X : Type 0} {x : X} → Some x ≡ None → ⊥
-some_none e = cc
 
 -- What a text is that is read as a polynomial.
 pub record IsTextOf (p : Laurent) (text : List ℕ) : Type 0 where

@@ -7,7 +7,7 @@ use Rattle.std.specs.Fmt.{decimal, signed_decimal}
 use Rattle.std.specs.Int.RustNames.{unsigned_abs}
 use Rattle.std.specs.Ordering.{int_eq}
 use Rattle.std.specs.Str.Parse.{AllDigits}
-use Rattle.std.proofs.lemmas.List.Sums.{sum_by-cons, count_by-le-length}
+use Rattle.std.proofs.lemmas.List.Sums.{count_by-le-length}
 use Rattle.std.proofs.lemmas.Str.Parse.{digit_from_value}
 use Rattle.sp_defs.specs.Partition.{degree, IsPartition}
 use Rattle.sp_defs.specs.Laurent.{Laurent, Term, size}
@@ -19,6 +19,7 @@ use Rattle.sp_lists.proofs.Sums.{all_below_sum}
 use Rattle.sp_shapes.proofs.Degrees.{length-degree}
 use Rattle.sp_laurent.specs.Readable.{IsReadable, read_limit}
 use Rattle.sp_laurent.proofs.Fronts.{numeral}
+use Rattle.sp_laurent.proofs.Terms.{size_terms}
 
 -- All bytes are greater than a blank.
 abbrev pub IsVisible : List ℕ → Type 0
@@ -109,12 +110,6 @@ signed_term_visible (k, c) hk hc =
     visible_append (cond (is_negative (k, c)) (codes "-") (codes "+")) (term_text (k, c))
     (visible_cond (is_negative (k, c)) (codes "-") (codes "+") (omega arith, tt) (omega arith, tt))
     (term_visible k c hk hc)
-
-size_terms : (p : Laurent) (most : ℕ) → size p ≤ most → AllByRecursion (λ t. unsigned_abs t.1 ≤ most) p
-size_terms [] most h = tt
-size_terms (t ∷ p) most h =
-    let first : size (t ∷ p) ≡ unsigned_abs t.1 + size p = sum_by-cons (λ (u : Term). unsigned_abs u.1) t p in
-    (omega arith, size_terms p most (omega arith))
 
 -- the text of a polynomial
 pub polynomial_visible : (p : Laurent) → IsReadable p → IsVisible (polynomial_text p)

@@ -19,7 +19,8 @@ unfolding cell_among
 cell_among-here place column p others e =
     ap (λ b. cond b p (cell_among others column)) (eq-eqb place column e)
 
-cell_among-other : (place column : ℕ) (p : Laurent) (others : Cells) → place ≢ column
+-- what stands at another place than the first
+pub cell_among-other : (place column : ℕ) (p : Laurent) (others : Cells) → place ≢ column
     → cell_among ((place, p) ∷ others) column ≡ cell_among others column
 unfolding cell_among
 cell_among-other place column p others ne =

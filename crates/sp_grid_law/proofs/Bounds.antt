@@ -7,11 +7,11 @@ use Rattle.std.proofs.Math.Nat.{mul-zero}
 use Rattle.std.specs.List.{AllByRecursion, range_with_len}
 use Rattle.sp_defs.specs.Laurent.{Laurent, one, negate, times, size, sum_over}
 use Rattle.sp_defs.specs.Within.{PowersWithin}
-use Rattle.sp_lists.proofs.Elements.{le_or_lt}
+use Rattle.sp_lists.proofs.Elements.{range_add, le_or_lt}
 use Rattle.sp_algebra.proofs.Sizes.{within_plus, within_negate, within_times, product_within}
 use Rattle.sp_grid_law.specs.Tables.{delta}
 use Rattle.sp_grid_law.specs.Solved.{solution, solved}
-use Rattle.sp_grid_law.proofs.Sums.{all_range, range-append}
+use Rattle.sp_grid_law.proofs.Sums.{all_range}
 use Rattle.sp_grid_law.proofs.SparseSums.{sum_by-none, sum_by-range}
 use Rattle.sp_grid_law.proofs.Matrices.{Matrix}
 use Rattle.sp_grid_law.proofs.Solutions.{earlier, length-solved, solution_step}
@@ -71,9 +71,9 @@ pub earlier_sizes : (n : ℕ) (A : Matrix) (j i : ℕ) → j < i → i < n →
 earlier_sizes n A j i lt under =
     ap (λ r. sum_by term r)
     (ap (range_with_len 0) {x = n} {y = j + (i - j + (n - i))} (omega arith)
-    ∙ range-append 0 j (i - j + (n - i))
+    ∙ range_add 0 j (i - j + (n - i))
     ∙ ap (λ k. range_with_len 0 j ++ range_with_len k (i - j + (n - i))) {x = 0 + j} {y = j} (omega arith)
-    ∙ ap (λ r. range_with_len 0 j ++ r) (range-append j (i - j) (n - i)))
+    ∙ ap (λ r. range_with_len 0 j ++ r) (range_add j (i - j) (n - i)))
     ∙ sum_by-append term (range_with_len 0 j) (range_with_len j (i - j) ++ range_with_len (j + (i - j)) (n - i))
     ∙ ap (λ m. m + sum_by term (range_with_len j (i - j) ++ range_with_len (j + (i - j)) (n - i)))
     (sum_by-none 0 j term

@@ -5,7 +5,7 @@ use Rattle.std.proofs.lemmas.List.FromFn.{get_or-map-range_with_len, map-range_w
 use Rattle.std.specs.List.{AllByRecursion, range_with_len}
 use Rattle.sp_defs.specs.Laurent.{Laurent, nought, one, plus, negate, times, size, sum_over}
 use Rattle.sp_defs.specs.Within.{PowersWithin}
-use Rattle.sp_lists.proofs.Elements.{all_map, le_or_lt}
+use Rattle.sp_lists.proofs.Elements.{range_add, all_map, le_or_lt}
 use Rattle.sp_algebra.proofs.Laws.{IsLaurent-negate, nought_plus, plus_nought, times_nought}
 use Rattle.sp_algebra.proofs.Sizes.{within_more}
 use Rattle.sp_algebra.proofs.Sums.{IsLaurent-sum_over, sum_over-append}
@@ -18,7 +18,7 @@ use Rattle.sp_grid_law.specs.Inverses.{IsTriangular, inverse_size}
 use Rattle.sp_grid_law.specs.Lines.{IsLine, factor_at, line_sum, line_size}
 use Rattle.sp_grid_law.proofs.Lines.{all_line, among_all, among_is, line-alike}
 use Rattle.sp_grid_law.specs.Solved.{earlier_sum, inverse_of, solution, solved}
-use Rattle.sp_grid_law.proofs.Sums.{all_range, range-append, sum_over-none, sum_over-range}
+use Rattle.sp_grid_law.proofs.Sums.{all_range, sum_over-none, sum_over-range}
 use Rattle.sp_grid_law.proofs.SparseSums.{sum_by-range}
 use Rattle.sp_grid_law.proofs.Matrices.{Matrix, delta-same, delta-other}
 use Rattle.sp_grid_law.proofs.Solutions.{length-solved, solved_is, solved_at, solution_above, solution_own}
@@ -60,7 +60,7 @@ module _ (g : GridValue) (t : IsTriangular g) (column line : ℕ) (behind : colu
       ≡ earlier_sum (cell_of g) line (solved (cell_of g) column line)
   sum_is =
       ap (λ r. sum_over r term) (ap (range_with_len 0) {x = length g.columns} {y = line + (length g.columns - line)}
-      (omega (arith, width)) ∙ range-append 0 line (length g.columns - line))
+      (omega (arith, width)) ∙ range_add 0 line (length g.columns - line))
       ∙ sum_over-append (range_with_len 0 line) (range_with_len (0 + line) (length g.columns - line)) term
       ∙ ap (plus (sum_over (range_with_len 0 line) term))
       (sum_over-none (0 + line) (length g.columns - line) term

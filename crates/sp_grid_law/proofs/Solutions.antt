@@ -5,13 +5,13 @@ use Rattle.std.proofs.Common.{refl, sym, ◌∙◌, ap, ap₂, subst, arith, inl
 use Rattle.std.proofs.lemmas.List.FromFn.{map-range_with_len_more, get_or-map-range_with_len}
 use Rattle.std.specs.List.{range_with_len}
 use Rattle.sp_defs.specs.Laurent.{Laurent, IsLaurent, collect, one, plus, negate, times, sum_over}
-use Rattle.sp_lists.proofs.Elements.{le_or_lt}
+use Rattle.sp_lists.proofs.Elements.{le_or_lt, range_add}
 use Rattle.sp_algebra.proofs.Laws.{IsLaurent-plus, plus_assoc, plus_comm, plus_nought, nought_plus, plus_negate}
 use Rattle.sp_algebra.proofs.Laws.{times_nought, nought_times, one_times}
 use Rattle.sp_algebra.proofs.Sums.{sum_over-append}
 use Rattle.sp_grid_law.specs.Tables.{delta}
 use Rattle.sp_grid_law.specs.Solved.{earlier_sum, solution, solved}
-use Rattle.sp_grid_law.proofs.Sums.{range-append, sum_over-range, sum_over-none}
+use Rattle.sp_grid_law.proofs.Sums.{sum_over-range, sum_over-none}
 use Rattle.sp_grid_law.proofs.Matrices.{Matrix, mul, delta-same, delta-other, IsLaurent-delta, mul-alike, mul-assoc}
 use Rattle.sp_grid_law.proofs.Matrices.{delta-mul, mul-delta, mul-collect, one_inverse}
 
@@ -112,7 +112,7 @@ module _ (A : Matrix) (j : ℕ) where
   unfolding sum_over
   solution_right n h i lt =
       ap (λ r. sum_over r term) (ap (range_with_len 0) {x = n} {y = i + suc (n - suc i)} (omega arith)
-      ∙ range-append 0 i (suc (n - suc i)))
+      ∙ range_add 0 i (suc (n - suc i)))
       ∙ sum_over-append (range_with_len 0 i) (range_with_len (0 + i) (suc (n - suc i))) term
       ∙ ap (plus (earlier i)) behind
       ∙ taken (earlier i) (delta i j) (solution A i j) (IsLaurent-delta i j) (solution_step i)

@@ -85,17 +85,6 @@ all_range P a zero h = tt
 all_range P a (suc n) h =
     (h a (omega arith) (omega arith), all_range P (a + 1) n (λ k from lt. h k (omega arith) (omega arith)))
 
--- A range is one range and another behind it.
-pub range-append : (a m n : ℕ) → range_with_len a (m + n) ≡ range_with_len a m ++ range_with_len (a + m) n
-range-append a zero n =
-    ap (range_with_len a) {x = 0 + n} {y = n} (omega arith)
-    ∙ ap (λ b. range_with_len b n) {x = a} {y = a + 0} (omega arith)
-range-append a (suc m) n =
-    ap (range_with_len a) {x = suc m + n} {y = suc (m + n)} (omega arith)
-    ∙ ap (λ r. a ∷ r)
-    (range-append (a + 1) m n
-    ∙ ap (λ b. range_with_len (a + 1) m ++ range_with_len b n) {x = a + 1 + m} {y = a + suc m} (omega arith))
-
 -- Sums of polynomials that are the same on a range.
 pub sum_over-range : (a n : ℕ) (f g : ℕ → Laurent) → ((k : ℕ) → a ≤ k → k < a + n → f k ≡ g k) →
     sum_over (range_with_len a n) f ≡ sum_over (range_with_len a n) g

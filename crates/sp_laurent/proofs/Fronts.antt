@@ -15,7 +15,8 @@ use Rattle.sp_laurent.specs.Pieces.{IsPlain, IsSigned, EndsDigits, behind_mark}
 
 -- ---- digits
 
-digit_test : (c : ℕ) → digit_value c < 10 → is_ascii_digit c ≡ true
+-- a code whose value is below ten is that of a digit
+pub digit_test : (c : ℕ) → digit_value c < 10 → is_ascii_digit c ≡ true
 digit_test c h = let range = digit_from_value c h in grind (arith, nat_tests)
 
 apart : (c : ℕ) → is_ascii_digit c ≡ true → is_ascii_digit c ≡ false → (X : Type 0) → X

@@ -14,10 +14,12 @@ use Rattle.sp_algebra.proofs.Coefficients.{by_eq}
 use Rattle.sp_laurent.specs.Pieces.{IsPlain, IsSigned, behind_mark, power_part, first_term_text, Begins}
 use Rattle.sp_laurent.proofs.Fronts.{StartsWithin, other_mark, decimal_starts, sign_plain}
 
-some_none : {X : Type 0} {x : X} → Some x ≡ None → ⊥
+-- what is there is not nothing
+pub some_none : {X : Type 0} {x : X} → Some x ≡ None → ⊥
 some_none e = cc
 
-some_same : {X : Type 0} {x y : X} → Some x ≡ Some y → x ≡ y
+-- what is there is told by what holds it
+pub some_same : {X : Type 0} {x y : X} → Some x ≡ Some y → x ≡ y
 some_same e = cc
 
 -- ---- powers

@@ -23,7 +23,8 @@ use Rattle.sp_laurent.proofs.Merging.{canonical_right}
 
 -- ---- the terms of a polynomial that is read
 
-size_terms : (p : Laurent) (most : ℕ) → size p ≤ most → AllByRecursion (λ t. unsigned_abs t.1 ≤ most) p
+-- no coefficient is greater than the size
+pub size_terms : (p : Laurent) (most : ℕ) → size p ≤ most → AllByRecursion (λ t. unsigned_abs t.1 ≤ most) p
 size_terms [] most h = tt
 size_terms (t ∷ p) most h =
     let first : size (t ∷ p) ≡ unsigned_abs t.1 + size p = sum_by-cons (λ (u : Term). unsigned_abs u.1) t p in

@@ -1,6 +1,6 @@
 -- Rows that are walked from their ends: what stands at a line, and what stays true for the lines after it.
-use Rattle.std.proofs.Common.{◌≡◌, ◌≢◌, ℕ, zero, suc, ◌+◌, ◌-◌, ◌<◌, false, List, [], ◌∷◌, map, length}
-use Rattle.std.proofs.Common.{get_or, set, refl, sym, ◌∙◌, ap, subst, arith, Less, Equal, Greater, is_eq}
+use Rattle.std.proofs.Common.{◌≡◌, ◌≢◌, ℕ, zero, suc, ◌+◌, ◌-◌, ◌<◌, List, [], ◌∷◌, map, length}
+use Rattle.std.proofs.Common.{get_or, set, refl, sym, ◌∙◌, ap, subst, arith, Equal, Greater}
 use Rattle.std.proofs.Common.{inl, inr, Bor}
 use Rattle.std.specs.Ordering.{ordering_reverse}
 use Rattle.std.proofs.lemmas.Bool.{cases_lt}
@@ -13,7 +13,7 @@ use Rattle.sp_defs.specs.Laurent.{Laurent}
 use Rattle.sp_defs.specs.Power.{FockVector, vector_of}
 use Rattle.sp_lists.proofs.Places.{all_at}
 use Rattle.sp_lists.proofs.Zips.{zip_at, zip_map, zip_set}
-use Rattle.sp_shapes.proofs.Order.{same_lists, later_than}
+use Rattle.sp_shapes.proofs.Order.{differ, later_than}
 use Rattle.sp_partition.specs.OrderLaws.{order_total, order_one_degree}
 use Rattle.sp_fock.specs.Held.{IsHeld}
 use Rattle.sp_fock_law.specs.Grid.{IsHeading}
@@ -23,13 +23,6 @@ use Rattle.sp_matrix.specs.Cursors.{ArePassed, Descend, IsAt, IsPassed}
 use Rattle.sp_matrix.specs.Walk.{vectors_of}
 
 -- ---- the order of partitions
-
-differ : (x y : List ℕ) → x ≢ y → is_eq (compare x y) ≡ false
-differ x y ne = elim (compare x y) as (λ o. compare x y ≡ o → is_eq o ≡ false) [
-  | Less ↦ λ _. refl
-  | Equal ↦ λ e. absurd (ne (same_lists x y e))
-  | Greater ↦ λ _. refl
-] refl
 
 greater_differs : (x y : List ℕ) → order x y ≡ Greater → x ≢ y
 greater_differs x y g same =

@@ -12,6 +12,7 @@ use Rattle.std.proofs.lemmas.Str.{digit_value_digit}
 use Rattle.std.proofs.lemmas.Str.Parse.{digit_from_value, digit_at}
 use Rattle.sp_lists.proofs.Elements.{le_or_lt}
 use Rattle.sp_partition.specs.Pieces.{IsNumber, DigitsAt}
+use Rattle.sp_partition.specs.Reading.{is_number}
 
 -- The digits so far weigh the more the more digits follow.
 after_is : (n : ℕ) (ds : List ℕ) → digits_value_after 10 n ds ≡ n * 10 ^ length ds + digits_value 10 ds
@@ -220,3 +221,8 @@ passing_digits [] h = tt
 passing_digits (d ∷ ds) h =
     let both = and_parts (is_digit d 10) (list_all (λ c. is_digit c 10) ds) h in
     (ltb-true (digit_value d) 10 both.0, passing_digits ds both.1)
+
+-- A number has digits alone.
+pub number_digits : (word : List ℕ) → is_number word ≡ true → AllDigits 10 word
+number_digits [] h = tt
+number_digits (d ∷ ds) h = passing_digits (d ∷ ds) (and_parts (list_all (λ c. is_digit c 10) (d ∷ ds)) _ h).0

@@ -1,23 +1,13 @@
 -- A sum over the partitions of a list that pass a test, as a sum over the rows that lead to them.
 use Rattle.std.proofs.Common.{◌≡◌, ◌≢◌, ℕ, ◌≤◌, Bool, true, false, cond, ◌&&◌, List, refl, sym}
-use Rattle.std.proofs.Common.{◌∙◌, ap, ap₂, subst, arith, ℤ, pos, Less, Equal, Greater, true≢false}
+use Rattle.std.proofs.Common.{◌∙◌, ap, ap₂, subst, arith, ℤ, pos, Equal, true≢false}
 use Rattle.std.specs.Ordering.{is_eq}
-use Rattle.std.specs.declared.cmp.Ordering.{Ordering}
 use Rattle.sp_defs.specs.Partition.{compare, Ascending, from_one_to}
 use Rattle.sp_lists.proofs.Elements.{range_all, all_every}
 use Rattle.sp_lists.proofs.Occurrence.{Occurs, all_occur}
 use Rattle.sp_lists.proofs.Places.{all_weaken}
-use Rattle.sp_shapes.proofs.Order.{equal_self, same_lists}
+use Rattle.sp_shapes.proofs.Order.{differ, equal_self}
 use Rattle.sp_sl2_law.proofs.Totals.{total, total-alike, total-zeros, total-swap, total-range_one, total-ascending_one}
-
--- Lists that differ don't compare as equal.
-pub not_equal : (x y : List ℕ) → x ≢ y → is_eq (compare x y) ≡ false
-not_equal x y ne = by_order (compare x y) refl
-  where
-    by_order : (o : Ordering) → compare x y ≡ o → is_eq o ≡ false
-    by_order Less is = refl
-    by_order Greater is = refl
-    by_order Equal is = absurd (ne (same_lists x y is))
 
 -- Of the rows 1 to n, those that are on lead to just the members of an ascending list that pass the test, each to one.
 module _ (xs : List (List ℕ)) (up : Ascending xs) (n : ℕ) (test : List ℕ → Bool) (on : ℕ → Bool) (to : ℕ → List ℕ)
@@ -35,7 +25,7 @@ module _ (xs : List (List ℕ)) (up : Ascending xs) (n : ℕ) (test : List ℕ �
     where
       off : (r : ℕ) → (b : Bool) → on r ≡ b → (b ≡ true → to r ≢ x) → hit x r ≡ pos 0
       off r false is h = ap (λ b. cond (b && is_eq (compare (to r) x)) (f x) (pos 0)) is
-      off r true is h = ap₂ (λ b c. cond (b && c) (f x) (pos 0)) is (not_equal (to r) x (h refl))
+      off r true is h = ap₂ (λ b c. cond (b && c) (f x) (pos 0)) is (differ (to r) x (h refl))
 
       at_one : (r : ℕ) → on r ≡ true → to r ≡ x → hit x r ≡ f x
       at_one r is same = ap₂ (λ b c. cond (b && is_eq c) (f x) (pos 0)) is
@@ -65,7 +55,7 @@ module _ (xs : List (List ℕ)) (up : Ascending xs) (n : ℕ) (test : List ℕ �
       by_on true is =
           total-ascending_one (λ x. cond (on r && is_eq (compare (to r) x)) (f x) (pos 0)) (to r) xs up
           (there r lo hi is).0
-          (λ x ne. ap₂ (λ b c. cond (b && c) (f x) (pos 0)) is (not_equal (to r) x (λ e. ne (sym e))))
+          (λ x ne. ap₂ (λ b c. cond (b && c) (f x) (pos 0)) is (differ (to r) x (λ e. ne (sym e))))
           ∙ ap₂ (λ b c. cond (b && is_eq c) (f (to r)) (pos 0)) is (equal_self (to r))
 
   -- So the sum over those that pass the test is the sum over the rows that are on.

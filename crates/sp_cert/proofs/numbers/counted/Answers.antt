@@ -1,6 +1,6 @@
 use Rattle.std.proofs.lemmas.Str.Parse.{digit_at}
 use Rattle.sp_partition.proofs.Numbers.{next_value}
-use Rattle.sp_cert.proofs.Counting.{number_digits}
+use Rattle.sp_partition.proofs.Numbers.{number_digits}
 use Rattle.sp_cert.proofs.numbers.counted.Goals as goal
 
 pub overflow_sub-digit : goal.overflow_sub-digit

@@ -1,7 +1,7 @@
 use Rattle.std.proofs.Common.{◌+◌, ◌-◌, ◌^◌, ◌∙◌, ap, min}
 use Rattle.std.proofs.lemmas.Str.Parse.{digit_at}
 use Rattle.sp_partition.proofs.Numbers.{next_up_to}
-use Rattle.sp_lang.proofs.Digits.{number_digits}
+use Rattle.sp_partition.proofs.Numbers.{number_digits}
 use Rattle.sp_lang.proofs.value.counted.Goals as goal
 
 pub overflow_sub-digit : goal.overflow_sub-digit
