@@ -1,0 +1,3 @@
+pub mod SumSteps
+pub mod Rows
+pub mod RowSoFar

@@ -1,0 +1,3 @@
+pub mod Within
+pub mod Lines
+pub mod Turned
