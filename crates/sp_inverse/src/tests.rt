@@ -1,9 +1,11 @@
 //! Worked grids.
-ghost use Rattle.std.specs.Prelude.{◌≡◌, IfOk, map};
+ghost use Rattle.std.specs.Prelude.{◌≡◌, ◌/◌, IfOk, map};
 ghost use Rattle.sp_defs.specs.Laurent.{monomial};
+ghost use Rattle.sp_laurent.specs.Held.{power_limit};
+ghost use Rattle.sp_grid_law.specs.Tables.{HasPowersWithin};
 ghost use Rattle.sp_inverse.specs.Turned.{CanInvert};
 
-use crate::{GridFault, column_past, invert, transpose};
+use crate::{GridFault, column_past, invert, multiply, transpose};
 use sp_fock::Grid;
 use sp_laurent::Laurent;
 use sp_partition::Partition;
@@ -49,7 +51,8 @@ fn degree_two(alloc: Global) -> Result<Grid, Fail>
 
 // The grid of degree 3 with 1 on the diagonal and below.
 fn degree_three(alloc: Global) -> Result<Grid, Fail>
-    ensures { IfOk result CanInvert }
+    ensures can { IfOk result CanInvert }
+    ensures near { IfOk result (HasPowersWithin (power_limit / 2)) }
 {
     let columns = vec![in alloc;
         Partition::from_parts(&[3])?,
@@ -117,6 +120,23 @@ fn an_inverse_has_more_than_negated_cells(rt: HostRuntime) -> Result<(), Fail> {
     assert_eq!(rt; told(alloc, &invert(alloc, &grid, 2))?.as_slice(), inverse);
     let refused = b"too large at 3".as_slice();
     assert_eq!(rt; told(alloc, &invert(alloc, &grid, 1))?.as_slice(), refused);
+    Ok(())
+}
+
+#[test]
+fn the_square_of_a_grid(rt: HostRuntime) -> Result<(), Fail> {
+    let alloc = rt.alloc();
+    let grid = degree_three(alloc)?;
+    let square = b" 3 2,1 1^3; 3 1 0 0; 2,1 2 1 0; 1^3 3 2 1".as_slice();
+    assert_eq!(rt;
+        told(alloc, &multiply(alloc, &grid, &grid, 3))?.as_slice(),
+        square
+    );
+    let refused = b"too large at 3".as_slice();
+    assert_eq!(rt;
+        told(alloc, &multiply(alloc, &grid, &grid, 2))?.as_slice(),
+        refused
+    );
     Ok(())
 }
 
