@@ -20,3 +20,4 @@ pub mod Splitting
 pub mod Heading
 pub mod Spelled
 pub mod Advancing
+pub mod Counts

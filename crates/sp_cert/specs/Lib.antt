@@ -10,3 +10,4 @@ pub mod Written
 pub mod Drafts
 pub mod Stages
 pub mod Told
+pub mod Counts

@@ -4,11 +4,13 @@ ghost use Rattle.std.specs.Prelude.{IfOk, OnOk};
 ghost use Rattle.std.specs.List.{list_any};
 ghost use Rattle.sp_defs.specs.Partition.{regulars as all_regulars};
 ghost use Rattle.sp_cert.specs.Order.{same_content, leaders};
+ghost use Rattle.sp_cert.specs.Counts.{AreContents};
 ghost use Rattle.sp_cert.specs.Grammar.{heads_of as all_heads, block_heads, ColumnHead};
 ghost use Rattle.sp_cert.specs.Drafts.{head_of, heads_in};
 
-use crate::contents::{is_leader, is_same_content};
+use crate::contents::{contents_of, is_leader, is_same};
 use crate::heads::Head;
+use arrayvec::ArrayVec;
 use sp_partition::Partition;
 use std::alloc::{AllocError, Global};
 
@@ -47,9 +49,10 @@ fn blocks_of(alloc: Global, e: u8, regulars: &[Partition]) -> Result<Vec<Head>, 
     ensures { (n : ℕ) → regulars.now ≡ all_regulars e n →
         IfOk result (λ heads. map head_of heads.items ≡ flat_map (block_heads e n) (leaders e n)) }
 {
+    let contents = contents_of(alloc, e, regulars)?;
     let mut heads = Vec::new(alloc);
     for place in 0..regulars.len() {
-        push_block_if(&mut heads, e, regulars, place)?;
+        push_block_if(&mut heads, regulars, &contents, place)?;
     }
     Ok(heads)
 }
@@ -57,39 +60,40 @@ fn blocks_of(alloc: Global, e: u8, regulars: &[Partition]) -> Result<Vec<Head>, 
 // Appends the heads of the block of the partition at a place, if no earlier one has its content.
 fn push_block_if(
     heads: &mut Vec<Head>,
-    e: u8,
     regulars: &[Partition],
+    contents: &[ArrayVec<u8, 64>],
     place: usize,
 ) -> Result<(), AllocError>
-    requires e_least { 2 ≤ e }
-    requires e_most { e ≤ 64 }
     requires place { place < length regulars.now }
-    ensures { OnOk result (map head_of heads.new.items ≡ map head_of heads.old.items ++
+    requires counted { length contents.now ≡ length regulars.now }
+    ensures { (e : ℕ) → AreContents e regulars.now contents.now →
+        OnOk result (map head_of heads.new.items ≡ map head_of heads.old.items ++
         cond (not (list_any (same_content e (get_or regulars.now place [])) (take place regulars.now)))
         (heads_in e regulars.now (get_or regulars.now place [])) []) }
 {
-    if is_leader(e, regulars, place) {
-        push_block(heads, e, regulars, &regulars[place])?;
+    if is_leader(contents, place) {
+        push_block(heads, regulars, contents, place)?;
     }
     Ok(())
 }
 
-// Appends the heads of the block of a partition.
+// Appends the heads of the block of the partition at a place.
 fn push_block(
     heads: &mut Vec<Head>,
-    e: u8,
     regulars: &[Partition],
-    leader: &Partition,
+    contents: &[ArrayVec<u8, 64>],
+    leader: usize,
 ) -> Result<(), AllocError>
-    requires e_least { 2 ≤ e }
-    requires e_most { e ≤ 64 }
-    ensures { OnOk result (map head_of heads.new.items ≡
-        map head_of heads.old.items ++ heads_in e regulars.now leader.now) }
+    requires leader { leader < length regulars.now }
+    requires counted { length contents.now ≡ length regulars.now }
+    ensures { (e : ℕ) → AreContents e regulars.now contents.now →
+        OnOk result (map head_of heads.new.items ≡
+        map head_of heads.old.items ++ heads_in e regulars.now (get_or regulars.now leader [])) }
 {
-    heads.push(Head::Block(*leader))?;
-    for mu in regulars {
-        if is_same_content(e, leader, mu) {
-            heads.push(Head::Column(*mu))?;
+    heads.push(Head::Block(regulars[leader]))?;
+    for place in 0..regulars.len() {
+        if is_same(contents, leader, place) {
+            heads.push(Head::Column(regulars[place]))?;
         }
     }
     Ok(())

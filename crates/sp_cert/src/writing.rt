@@ -10,11 +10,13 @@ ghost use Rattle.sp_llt.specs.Refusals.{first_refusal, outcome_at};
 ghost use Rattle.sp_llt.specs.declared.refused.FirstRefused.{FirstRefused as Refusal};
 ghost use Rattle.sp_defs.specs.Row.{Row as IsRow};
 ghost use Rattle.sp_cert.specs.Order.{same_content, leaders};
+ghost use Rattle.sp_cert.specs.Counts.{AreContents};
 ghost use Rattle.sp_cert.specs.Texts.{certificate_text, column_text, block_text};
 ghost use Rattle.sp_cert.specs.Written.{WrittenFacts};
 
-use crate::contents::{is_leader, is_same_content};
+use crate::contents::{contents_of, is_leader, is_same};
 use crate::lines::{put_block_line, put_column_line, put_number_line, put_term_line};
+use arrayvec::ArrayVec;
 use sp_llt::{Ctx, Entry, RowsFault, first_refused};
 use sp_partition::Partition;
 use std::alloc::{AllocError, Global};
@@ -82,8 +84,9 @@ fn put_blocks(
     ensures { OnOk result (out.new.items ≡
         out.old.items ++ flat_map (block_text ctx.now.e ctx.now.degree) (leaders ctx.now.e ctx.now.degree)) }
 {
+    let contents = contents_of(alloc, ctx.key().e, ctx.regulars())?;
     for rank in 0..ctx.regulars().len() {
-        put_block_if(alloc, ctx, rows, rank, out)?;
+        put_block_if(alloc, ctx, rows, &contents, rank, out)?;
     }
     Ok(())
 }
@@ -93,18 +96,20 @@ fn put_block_if(
     alloc: Global,
     ctx: &Ctx,
     rows: &[Arc<Entry>],
+    contents: &[ArrayVec<u8, 64>],
     rank: usize,
     out: &mut Vec<u8>,
 ) -> Result<(), AllocError>
     requires rank { rank < length (labels ctx.now) }
+    requires contents { AreContents ctx.now.e (labels ctx.now) contents.now }
     requires filled { IsFilled ctx.now rows.now }
     requires whole { first_refusal (reverse (map arc_value rows.now)) ≡ Nothing }
     ensures { OnOk result (out.new.items ≡ out.old.items ++
         cond (not (list_any (same_content ctx.now.e (label ctx.now rank)) (take rank (labels ctx.now))))
         (block_text ctx.now.e ctx.now.degree (label ctx.now rank)) []) }
 {
-    if is_leader(ctx.key().e, ctx.regulars(), rank) {
-        put_block(alloc, ctx, rows, rank, out)?;
+    if is_leader(contents, rank) {
+        put_block(alloc, ctx, rows, contents, rank, out)?;
     }
     Ok(())
 }
@@ -114,10 +119,12 @@ fn put_block(
     alloc: Global,
     ctx: &Ctx,
     rows: &[Arc<Entry>],
+    contents: &[ArrayVec<u8, 64>],
     leader: usize,
     out: &mut Vec<u8>,
 ) -> Result<(), AllocError>
     requires leader { leader < length (labels ctx.now) }
+    requires contents { AreContents ctx.now.e (labels ctx.now) contents.now }
     requires filled { IsFilled ctx.now rows.now }
     requires whole { first_refusal (reverse (map arc_value rows.now)) ≡ Nothing }
     ensures { OnOk result (out.new.items ≡
@@ -127,7 +134,7 @@ fn put_block(
     let mu = &ctx.regulars()[leader];
     put_block_line(e, mu, out)?;
     for rank in 0..ctx.regulars().len() {
-        put_column_if(alloc, ctx, rows, leader, rank, out)?;
+        put_column_if(alloc, ctx, rows, contents, leader, rank, out)?;
     }
     Ok(())
 }
@@ -137,6 +144,7 @@ fn put_column_if(
     alloc: Global,
     ctx: &Ctx,
     rows: &[Arc<Entry>],
+    contents: &[ArrayVec<u8, 64>],
     leader: usize,
     rank: usize,
     out: &mut Vec<u8>,
@@ -144,16 +152,15 @@ fn put_column_if(
     requires leader { leader < length (labels ctx.now) }
     requires rank { rank < length (labels ctx.now) }
     requires row { rank < length rows.now }
+    requires contents { AreContents ctx.now.e (labels ctx.now) contents.now }
     requires filled { IsFilled ctx.now rows.now }
     requires whole { first_refusal (reverse (map arc_value rows.now)) ≡ Nothing }
     ensures { OnOk result (out.new.items ≡ out.old.items ++
         cond (same_content ctx.now.e (label ctx.now leader) (label ctx.now rank))
         (column_text ctx.now.e ctx.now.degree (label ctx.now rank)) []) }
 {
-    let e = ctx.key().e;
-    let entry = &rows[rank];
-    if is_same_content(e, &ctx.regulars()[leader], &ctx.regulars()[rank]) {
-        put_column(alloc, ctx, entry, out)?;
+    if is_same(contents, leader, rank) {
+        put_column(alloc, ctx, &rows[rank], out)?;
     }
     Ok(())
 }

@@ -1,9 +1,6 @@
-use Rattle.std.proofs.Common.{cond, [], ◌++◌, sym, ◌∙◌, ap, ap₂}
-use Rattle.sp_core.specs.declared.piece.Key.{Key}
-use Rattle.sp_llt.specs.Place.{Place, label}
+use Rattle.std.proofs.Common.{cond, [], ◌++◌, sym, ◌∙◌, ap}
+use Rattle.sp_llt.specs.Place.{Place, label, labels}
 use Rattle.sp_llt.specs.Refusals.{outcome_at}
-use Rattle.sp_llt.proofs.Labels.{read_label}
-use Rattle.sp_cert.specs.Order.{same_content}
 use Rattle.sp_cert.specs.Texts.{column_text}
 use Rattle.sp_cert.proofs.Written.{row_in}
 use Rattle.sp_cert.proofs.writing.put_column_if.Goals as goal
@@ -25,14 +22,7 @@ returns-in_ok-put_column c =
     let key = c.args.ctx.now in
     let row = row_in key c.args.rows.now c.args.rank c.index-rows-rank.result c.requires.filled
     c.requires.whole c.requires.rank c.index-rows-rank.is in
-    let leader = read_label key c.args.leader c.regulars.result.now c.index-regulars-leader.result
-    c.regulars.ensures.value c.requires.leader c.index-regulars-leader.is in
-    let own = read_label key c.args.rank c.regulars-2.result.now c.index-regulars-rank.result
-    c.regulars-2.ensures.value c.requires.rank c.index-regulars-rank.is in
-    let passes = sym c.if-is_same_content.true ∙ c.is_same_content.ensures
-    ∙ ap (λ (k : Key). same_content k.e c.index-regulars-leader.result c.index-regulars-rank.result)
-    c.key-e.ensures.value
-    ∙ ap₂ (same_content key.e) leader own in
+    let passes = sym c.if-is_same.true ∙ c.is_same.ensures key.e (labels key) c.requires.contents in
     c.in_ok-put_column.ensures
     ∙ ap (λ r. c.args.out.now.items ++ column_text key.e key.degree (label key r))
     (ap (λ (p : Place). p.rank) (c.deref.ensures ∙ row.is))
