@@ -85,7 +85,8 @@ module _ (key : Key) (k : ℕ) (p : IsPlace (place key k)) (shares : List Share)
   abbrev is_stray : List ℕ → Bool
   is_stray lambda = not (is_eq (compare lambda mu)) && not (is_positive (w lambda))
 
-  stray_is : option_map (λ t. t.0) (find (is_stray_entry mu) (reverse row.entries)) ≡ find is_stray (reverse (partitions n))
+  stray_is :
+      option_map (λ t. t.0) (find (is_stray_entry mu) (reverse row.entries)) ≡ find is_stray (reverse (partitions n))
   stray_is =
       ap (λ es. option_map (λ t. t.0) (find (is_stray_entry mu) (reverse es))) row_entries
       ∙ listed_stray mu w (partitions n)
@@ -273,7 +274,8 @@ module _ (key : Key) (k : ℕ) (p : IsPlace (place key k)) (shares : List Share)
           ∙ none_passes (λ a. is_too_large (outcome e key.limit a.0)) (reverse fs)
           (λ a o. at_occurs (λ a. is_too_large (outcome e key.limit a.0) ≡ false) a (reverse fs) o
           (all_reverse (λ a. is_too_large (outcome e key.limit a.0) ≡ false) fs
-          (all_map (λ a. is_too_large (outcome e key.limit a.0) ≡ false) (λ (s : Share). (label key s.rank, s.alpha)) shares
+          (all_map (λ a. is_too_large (outcome e key.limit a.0) ≡ false)
+          (λ (s : Share). (label key s.rank, s.alpha)) shares
           (all_weaken (λ (s : Share). outcome_at (place key s.rank) ≡ Row)
           (λ s. is_too_large (outcome e key.limit (label key s.rank)) ≡ false) shares (λ s h. ap is_too_large h)
           rows))))

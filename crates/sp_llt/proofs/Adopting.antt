@@ -330,7 +330,8 @@ module _ (key : Key) (k : ℕ) (p : IsPlace (place key k)) where
   pub totals_left : (fs : Factors) (slots : TallyValue) → IsLeft key mu fs slots → (lambda : List ℕ) →
       IsPartitionOf slots.vector.degree lambda → total_of slots.totals lambda ≤ key.limit
   totals_left fs slots left lambda h =
-      let here : IsPartitionOf n lambda = subst (λ (t : TallyValue). IsPartitionOf t.vector.degree lambda) left.tally h in
+      let here : IsPartitionOf n lambda =
+      subst (λ (t : TallyValue). IsPartitionOf t.vector.degree lambda) left.tally h in
       subst (λ (t : TallyValue). total_of t.totals lambda ≤ key.limit) (sym left.tally)
       (subst (λ m. m ≤ key.limit) (sym (total_of-totals n (size_with fs) lambda here))
       (sizes_fit key.limit fs left.fits lambda here))

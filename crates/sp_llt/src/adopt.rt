@@ -42,9 +42,9 @@ impl Entry {
     /// The entry of a rank, from its listed row and the shares of earlier rows in its ladder vector.
     ///
     /// `shares` have ranks below `k`, strictly descending, and aren't 0. `earlier` are entries of this context that
-    /// have rows, by strictly ascending ranks below `k`, among them that of each share. It is refused as too large where
-    /// a coefficient of a partial ladder vector passes the limit or, at some partition, the size of the ladder vector's
-    /// coefficient and the products of the sizes of the shares and of their rows' coefficients sum up to more.
+    /// have rows, by strictly ascending ranks below `k`, among them that of each share. It is refused as too large
+    /// where a coefficient of a partial ladder vector passes the limit or, at some partition, the size of the ladder
+    /// vector's coefficient and the products of the sizes of the shares and of their rows' coefficients sum up to more.
     /// Otherwise it is wrong where the row or the shares aren't those of the rank.
     pub fn adopt(
         alloc: Global,

@@ -15,12 +15,14 @@ chosen_within state [] place last some = absurd (let no : true ≡ false = some 
 chosen_within state (x ∷ xs) place last some = omega (arith, last)
 
 module _ {X : Type 0} (state : X → PainterState) (grid : GridValue) where
+  -- the page of the chosen painter is that of the list
   pub page_at : (xs : List X) (i : ℕ) (x : X) → i < length xs → x ≡ get_or xs i x →
       page_of (state x) grid ≡ page_by (map state xs) i grid
   page_at [] i x lt is = absurd (omega arith)
   page_at (y ∷ xs) zero x lt is = ap (λ z. page_of (state z) grid) is
   page_at (y ∷ xs) (suc i) x lt is = page_at xs i x (omega arith) is
 
+  -- and the painters after it are those of the list
   pub painters_with : (xs : List X) (i : ℕ) (old new : X) → i < length xs → old ≡ get_or xs i old →
       state new ≡ next_of (state old) grid → map state (set xs i new) ≡ painters_after (map state xs) i grid
   painters_with [] i old new lt is next = absurd (omega arith)

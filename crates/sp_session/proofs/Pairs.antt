@@ -14,6 +14,7 @@ module _ {X Y : Type 0} (text : X × Y → List ℕ) (xs : List X) (ys : List Y)
       ∙ ap (λ p. p ∷ drop (i + 1) (zip xs ys))
       (get_or-zip xs ys i (x, y) lt (omega (arith, same)) ∙ ap₂ (λ a b. (a, b)) (sym x_is) (sym y_is))
 
+  -- one pair more
   pub pair_written : (x : X) (y : Y) (now : List ℕ) → i < length xs → x ≡ get_or xs i x → y ≡ get_or ys i y →
       now ≡ before ++ text (x, y) → now ++ flat_map text (drop (i + 1) (zip xs ys)) ≡ whole
   pair_written x y now lt x_is y_is is =
@@ -21,6 +22,7 @@ module _ {X Y : Type 0} (text : X × Y → List ℕ) (xs : List X) (ys : List Y)
       ∙ append_assoc before (text (x, y)) (flat_map text (drop (i + 1) (zip xs ys)))
       ∙ ap (λ ps. before ++ flat_map text ps) (sym (pairs-drop x y lt x_is y_is)) ∙ h
 
+  -- all pairs
   pub pairs_written : length xs ≤ i → before ≡ whole
   pairs_written le =
       sym (append-nil before)

@@ -53,11 +53,13 @@ module _ (limit : ℕ) (g : GridValue) (grid : IsGrid g) (triangular : IsSquareU
         told = told (solved (cell_at g) [] g.columns) s;
       }
 
+  -- the text where no dimension passes the limit
   pub within_text : (dims : List ℤ) → IsWithin limit g.columns (cell_at g) dims →
       flat_map dims_line (zip g.columns dims) ≡ grid_dims_text limit g
   within_text dims w =
       sym (told dims w.solution ∙ ap (λ o. dims_or_refusal o (zip g.columns dims)) w.within)
 
+  -- the text where one does
   pub past_text : (at : List ℕ) → IsPast limit g.columns (cell_at g) at →
       refusal_line (LargeColumn at) ≡ grid_dims_text limit g
   past_text at p = sym (told p.dims p.solution ∙ ap (λ o. dims_or_refusal o (zip g.columns p.dims)) p.first)

@@ -1,19 +1,19 @@
 -- One line in place of all answers.
-use Rattle.std.proofs.Common.{◌≡◌, ◌≤◌, ◌+◌, ◌-◌, ◌*◌, ◌++◌, ℕ, zero, suc, List, [], ◌∷◌, Option, length, codes, decimal}
-use Rattle.std.proofs.Common.{arith, ap, sym, ◌∙◌, refl, subst, inl, inr, length-append}
+use Rattle.std.proofs.Common.{◌≡◌, ◌≤◌, ◌+◌, ◌-◌, ◌*◌, ◌++◌, ℕ, zero, suc, List, [], ◌∷◌, Option, length, codes}
+use Rattle.std.proofs.Common.{decimal}
+use Rattle.std.proofs.Common.{arith, ap, ◌∙◌, refl, inl, inr, length-append}
 use Rattle.std.proofs.lemmas.Fmt.{length-decimal-le}
 use Rattle.sp_stream.specs.declared.status.Status.TheVariants.{Done, WriteFault, OutOfMemory}
 use Rattle.sp_stream.specs.Writing.{Breaks, Puts}
+use Rattle.sp_stream.proofs.Runs.{fitting}
 use Rattle.sp_words.specs.declared.lines.Kind.{Kind}
 use Rattle.sp_words.specs.declared.lines.Kind.TheVariants.{Crystal, Decomposition, Dims, Certificate}
 use Rattle.sp_words.specs.declared.lines.Line.{Line}
-use Rattle.sp_words.specs.Generated.{generated_text, line_behind, line_text, lines_behind, lines_text, next_number, word_of}
+use Rattle.sp_words.specs.Generated.{generated_text, line_behind, line_text, lines_behind, lines_text, next_number}
+use Rattle.sp_words.specs.Generated.{word_of}
 use Rattle.sp_session.specs.Summary.{IsOneReply}
 
 -- ---- the sink
-
-fitting : (steady : ℕ → Type 0) (room many : ℕ) → many ≤ room → steady room → steady (many + (room - many))
-fitting steady room many fits s = let same : room ≡ many + (room - many) = omega arith in subst steady same s
 
 module _ {Sink : Type 0} (written : Sink → Option (List ℕ)) (steady : Sink → ℕ → Type 0) (faults : Sink → ℕ)
     (line : List ℕ) (old new : Sink) where

@@ -64,8 +64,8 @@ module _ {Source Sink : Type 0}
   -- It has these words and painters. The program has many workers, or works on one thread.
   pub record IsRun (many : Bool) (words : List (List ℕ)) (painters : List PainterState)
       (source now_source : Source) (sink now_sink : Sink) (status : Status) : Type 0 where
-    -- Usage comes only where the words are not allowed. Where they are not allowed nothing else comes but want of memory,
-    -- and nothing is read or written.
+    -- Usage comes only where the words are not allowed. Where they are not allowed nothing else comes but want of
+    -- memory, and nothing is read or written.
     pub usage : status ≡ Usage → (said : Words) → ¬ Says many words said
     pub untouched : status ≡ Usage → (now_source ≡ source) × (now_sink ≡ sink)
     pub refused : ((said : Words) → ¬ Says many words said) →

@@ -61,7 +61,8 @@ slot_of-all P none (p ∷ ps) (s ∷ ss) (h, hs) lambda =
 
 -- what holds at each place of the list of all partitions holds at each partition
 pub each_place : (n : ℕ) (P : List ℕ → Type 0) →
-    ((i : ℕ) → i < length (partitions n) → P (get_or (partitions n) i [])) → (lambda : List ℕ) → IsPartitionOf n lambda → P lambda
+    ((i : ℕ) → i < length (partitions n) → P (get_or (partitions n) i [])) →
+    (lambda : List ℕ) → IsPartitionOf n lambda → P lambda
 each_place n P h lambda k =
     at_occurs P lambda (partitions n) (each_partition n lambda k.partition k.total) (all_places P (partitions n) [] h)
 
