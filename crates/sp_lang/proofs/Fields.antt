@@ -13,6 +13,7 @@ use Rattle.sp_lang.specs.declared.verb.Verb.TheVariants.{Partitions, Regular, Co
 use Rattle.sp_lang.specs.declared.verb.Verb.TheVariants.{Content, Core, Combine, Abacus, Good, Path, Mullineux}
 use Rattle.sp_lang.specs.declared.verb.Verb.TheVariants.{Induce, Ladders, Ladder, Row, Crystal, Decomposition}
 use Rattle.sp_lang.specs.declared.verb.Verb.TheVariants.{Block, Painter, Jantzen, Schaper, Dim, Dims}
+use Rattle.sp_lang.specs.declared.verb.Verb.TheVariants.{Certificate, Check}
 use Rattle.sp_lang.proofs.Faultless.{Faultless}
 use Rattle.sp_lang.proofs.ByPlace.{value_there, words_of-read_all, byte_exact, partition_fitting}
 use Rattle.sp_lang.proofs.Right.{IsGiven-fits, e_at, residue_at, degree_at, partition_at, peer_at, grown_at}
@@ -101,6 +102,8 @@ exact Jantzen ws f = ap₂ command.Jantzen (exact_e _ ws f refl) (exact_partitio
 exact Schaper ws f = ap₂ command.Schaper (exact_e _ ws f refl) (exact_degree _ ws f 1 refl)
 exact Dim ws f = ap command.Dim (exact_partition _ ws f 0 refl)
 exact Dims ws f = ap₂ command.Dims (exact_e _ ws f refl) (exact_degree _ ws f 1 refl)
+exact Certificate ws f = ap₂ command.Certificate (exact_e _ ws f refl) (exact_degree _ ws f 1 refl)
+exact Check ws f = refl
 
 -- The fields of a command that was read are as its places ask.
 pub fields : (verb : Verb) (ws : List (List ℕ)) → Faultless (places_of verb) ws → IsCommand (command_of verb ws)
@@ -138,3 +141,5 @@ fields Jantzen ws f = with_e _ ws f refl refl
 fields Schaper ws f = (e_at _ ws f 0 refl, degree_at _ ws f 1 refl)
 fields Dim ws f = partition_at _ ws f 0 refl
 fields Dims ws f = (e_at _ ws f 0 refl, degree_at _ ws f 1 refl)
+fields Certificate ws f = (e_at _ ws f 0 refl, degree_at _ ws f 1 refl)
+fields Check ws f = tt

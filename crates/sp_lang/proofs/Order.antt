@@ -28,7 +28,8 @@ use Rattle.sp_lang.specs.declared.verb.Place.{Place}
 use Rattle.sp_lang.specs.declared.verb.Place.TheVariants.{E, Residue, Count, Degree, Partition, Peer, Grown, Label}
 use Rattle.sp_lang.specs.declared.verb.Place.TheVariants.{Weight}
 use Rattle.sp_lang.specs.declared.verb.Verb.{Verb}
-use Rattle.sp_lang.specs.declared.verb.Verb.TheVariants.{Conjugate, Dim, Dominates, Hooks, Induce, Painter, Partitions}
+use Rattle.sp_lang.specs.declared.verb.Verb.TheVariants.{Check, Conjugate, Dim, Dominates, Hooks, Induce, Painter}
+use Rattle.sp_lang.specs.declared.verb.Verb.TheVariants.{Partitions}
 use Rattle.sp_lang.proofs.ByPlace.{value_there, byte_read, byte_exact, partition_fitting}
 use Rattle.sp_lang.proofs.Right.{IsGiven-fits, e_of, given_of}
 
@@ -285,6 +286,7 @@ kind Conjugate = inr (inl (refl, refl))
 kind Dominates = inr (inl (refl, refl))
 kind Hooks = inr (inl (refl, refl))
 kind Dim = inr (inl (refl, refl))
+kind Check = inr (inr (refl, refl))
 kind other = inl (refl, refl)
 
 -- Where a place asks for a partition to be grown, the third word is a number of nodes.

@@ -11,6 +11,7 @@ use Rattle.sp_lang.specs.declared.verb.Verb.TheVariants.{Partitions, Regular, Co
 use Rattle.sp_lang.specs.declared.verb.Verb.TheVariants.{Content, Core, Combine, Abacus, Good, Path, Mullineux}
 use Rattle.sp_lang.specs.declared.verb.Verb.TheVariants.{Induce, Ladders, Ladder, Row, Crystal, Decomposition}
 use Rattle.sp_lang.specs.declared.verb.Verb.TheVariants.{Block, Painter, Jantzen, Schaper, Dim, Dims}
+use Rattle.sp_lang.specs.declared.verb.Verb.TheVariants.{Certificate, Check}
 use Rattle.sp_lang.specs.declared.verb.Place.{Place}
 use Rattle.sp_lang.specs.declared.verb.Place.TheVariants.{E, Residue, Count, Degree, Partition, Peer, Grown, Label}
 use Rattle.sp_lang.specs.declared.verb.Place.TheVariants.{Quotient, Weight, Name}
@@ -41,6 +42,8 @@ name_of Jantzen = codes "jantzen"
 name_of Schaper = codes "schaper"
 name_of Dim = codes "dim"
 name_of Dims = codes "dims"
+name_of Certificate = codes "certificate"
+name_of Check = codes "check"
 
 abbrev pub places_of : Verb → List Place
 places_of Partitions = Degree ∷ []
@@ -68,12 +71,14 @@ places_of Jantzen = E ∷ Partition ∷ []
 places_of Schaper = E ∷ Degree ∷ []
 places_of Dim = Partition ∷ []
 places_of Dims = E ∷ Degree ∷ []
+places_of Certificate = E ∷ Degree ∷ []
+places_of Check = []
 
 abbrev pub verbs : List Verb
 verbs =
     Partitions ∷ Regular ∷ Conjugate ∷ Dominates ∷ Diagram ∷ Hooks ∷ Content ∷ Core ∷ Combine ∷ Abacus ∷ Good ∷ Path
     ∷ Mullineux ∷ Induce ∷ Ladders ∷ Ladder ∷ Row ∷ Crystal ∷ Decomposition ∷ Block ∷ Painter ∷ Jantzen ∷ Schaper
-    ∷ Dim ∷ Dims ∷ []
+    ∷ Dim ∷ Dims ∷ Certificate ∷ Check ∷ []
 
 -- The command whose first word this is.
 unfoldable pub verb_of : List ℕ → Option Verb
@@ -129,6 +134,9 @@ command_with number_at partition_at partitions_at words Jantzen = command.Jantze
 command_with number_at partition_at partitions_at words Schaper = command.Schaper (number_at 0) (number_at 1)
 command_with number_at partition_at partitions_at words Dim = command.Dim (partition_at 0)
 command_with number_at partition_at partitions_at words Dims = command.Dims (number_at 0) (number_at 1)
+command_with number_at partition_at partitions_at words Certificate =
+    command.Certificate (number_at 0) (number_at 1)
+command_with number_at partition_at partitions_at words Check = command.Check
 
 -- What the words behind the first one say.
 unfoldable pub command_of : Verb → List (List ℕ) → Command

@@ -8,7 +8,7 @@ use Rattle.sp_lang.specs.declared.command.Command.TheVariants.{Nothing, Partitio
 use Rattle.sp_lang.specs.declared.command.Command.TheVariants.{Diagram, Hooks, Content, Core, Combine, Abacus, Good}
 use Rattle.sp_lang.specs.declared.command.Command.TheVariants.{Path, Mullineux, Induce, Ladders, Ladder, Row, Crystal}
 use Rattle.sp_lang.specs.declared.command.Command.TheVariants.{Decomposition, Block, Painter, Jantzen, Schaper}
-use Rattle.sp_lang.specs.declared.command.Command.TheVariants.{Dim, Dims}
+use Rattle.sp_lang.specs.declared.command.Command.TheVariants.{Dim, Dims, Certificate, Check}
 
 pub record IsE (e : ℕ) : Type 0 where
   pub low : 2 ≤ e
@@ -62,6 +62,8 @@ IsCommand (Jantzen e p) = IsWithE e p
 IsCommand (Schaper e n) = IsE e × (n ≤ DEGREE_LIMIT)
 IsCommand (Dim p) = IsGiven p
 IsCommand (Dims e n) = IsE e × (n ≤ DEGREE_LIMIT)
+IsCommand (Certificate e n) = IsE e × (n ≤ DEGREE_LIMIT)
+IsCommand Check = Unit {0}
 
 -- Only a quotient takes memory.
 abbrev pub WantsMemory : Result Command LineFault → Type 0

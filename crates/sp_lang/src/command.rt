@@ -56,4 +56,8 @@ pub enum Command<'a> {
     Dim(Partition),
     /// `dims e n`: the dimensions of the Specht and the simple modules of the e-regular partitions of n.
     Dims(u8, u8),
+    /// `certificate e n`: the certificate of the rows of degree n.
+    Certificate(u8, u8),
+    /// `check`: whether the certificate in the lines behind it has the rows.
+    Check,
 }

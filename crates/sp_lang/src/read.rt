@@ -171,6 +171,8 @@ fn command<'a>(alloc: Global, verb: Verb, given: &[Given<'a>]) -> Result<Command
         Verb::Schaper => Command::Schaper(number(0), number(1)),
         Verb::Dim => Command::Dim(partition(0)),
         Verb::Dims => Command::Dims(number(0), number(1)),
+        Verb::Certificate => Command::Certificate(number(0), number(1)),
+        Verb::Check => Command::Check,
     })
 }
 

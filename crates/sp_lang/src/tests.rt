@@ -39,6 +39,8 @@ fn shown<'a>(command: &'a Command<'a>) -> (&'static str, &'a [u8], [u64; 3]) {
         Command::Schaper(e, n) => ("schaper", &[], [u64::from(*e), u64::from(*n), 0]),
         Command::Dim(p) => ("dim", p.parts(), [0; 3]),
         Command::Dims(e, n) => ("dims", &[], [u64::from(*e), u64::from(*n), 0]),
+        Command::Certificate(e, n) => ("certificate", &[], [u64::from(*e), u64::from(*n), 0]),
+        Command::Check => ("check", &[], [0; 3]),
     }
 }
 
@@ -53,7 +55,7 @@ fn sum(quotient: &[Partition]) -> u8 {
 
 #[test]
 fn lines_and_their_commands(rt: HostRuntime) -> Result<(), Fail> {
-    let cases: [(&[u8], &str, &[u8], [u64; 3]); 44] = [
+    let cases: [(&[u8], &str, &[u8], [u64; 3]); 47] = [
         (b"", "nothing", &[], [0; 3]),
         (b" \t ", "nothing", &[], [0; 3]),
         (b"# comment", "nothing", &[], [0; 3]),
@@ -123,6 +125,9 @@ fn lines_and_their_commands(rt: HostRuntime) -> Result<(), Fail> {
         (b"dim -", "dim", &[], [0; 3]),
         (b"dims 5 9", "dims", &[], [5, 9, 0]),
         (b"dims 2 0", "dims", &[], [2, 0, 0]),
+        (b"certificate 64 30", "certificate", &[], [64, 30, 0]),
+        (b"check", "check", &[], [0; 3]),
+        (b" \tcheck ", "check", &[], [0; 3]),
     ];
     for (line, word, parts, numbers) in cases {
         let outcome = read_command(rt.alloc(), line);
@@ -139,7 +144,7 @@ fn lines_and_their_commands(rt: HostRuntime) -> Result<(), Fail> {
 
 #[test]
 fn lines_and_their_faults(rt: HostRuntime) -> Result<(), Fail> {
-    let cases: [(&[u8], LineFault); 67] = [
+    let cases: [(&[u8], LineFault); 73] = [
         (b"frob 1", LineFault::UnknownCommand),
         (b"Row 2 1", LineFault::UnknownCommand),
         (b"rows", LineFault::UnknownCommand),
@@ -185,8 +190,14 @@ fn lines_and_their_faults(rt: HostRuntime) -> Result<(), Fail> {
         (b"row 2 1\r", LineFault::BadByte),
         (b"# \x7f", LineFault::BadByte),
         (b"Dim 1", LineFault::UnknownCommand),
-        (b"check", LineFault::UnknownCommand),
-        (b"certificate 2 3", LineFault::UnknownCommand),
+        (b"checks", LineFault::UnknownCommand),
+        (b"Check", LineFault::UnknownCommand),
+        (b"check x", LineFault::WordCount),
+        (b"check #", LineFault::WordCount),
+        (b"check\r", LineFault::BadByte),
+        (b"certificate 2", LineFault::WordCount),
+        (b"certificate x 31", LineFault::NotNumber),
+        (b"certificate 65 31", LineFault::BadE),
         (b"crystal 2", LineFault::WordCount),
         (b"painter", LineFault::WordCount),
         (b"painter a b", LineFault::WordCount),

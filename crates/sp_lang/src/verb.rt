@@ -30,6 +30,8 @@ pub enum Verb {
     Schaper,
     Dim,
     Dims,
+    Certificate,
+    Check,
 }
 
 /// What a word of a command stands for.
@@ -59,7 +61,7 @@ pub enum Place {
     Name,
 }
 
-pub(crate) const VERBS: [Verb; 25] = [
+pub(crate) const VERBS: [Verb; 27] = [
     Verb::Partitions,
     Verb::Regular,
     Verb::Conjugate,
@@ -85,6 +87,8 @@ pub(crate) const VERBS: [Verb; 25] = [
     Verb::Schaper,
     Verb::Dim,
     Verb::Dims,
+    Verb::Certificate,
+    Verb::Check,
 ];
 
 impl Verb {
@@ -118,6 +122,8 @@ impl Verb {
             Verb::Schaper => b"schaper",
             Verb::Dim => b"dim",
             Verb::Dims => b"dims",
+            Verb::Certificate => b"certificate",
+            Verb::Check => b"check",
         }
     }
 
@@ -151,6 +157,8 @@ impl Verb {
             Verb::Schaper => &[Place::E, Place::Degree],
             Verb::Dim => &[Place::Partition],
             Verb::Dims => &[Place::E, Place::Degree],
+            Verb::Certificate => &[Place::E, Place::Degree],
+            Verb::Check => &[],
         }
     }
 }

@@ -1,5 +1,6 @@
 -- Why a command that was read is refused, and the line that says so. This project's own.
 use Rattle.std.specs.Prelude.{ℕ, List, ◌++◌, codes}
+use Rattle.std.specs.Fmt.{decimal}
 use Rattle.sp_defs.specs.Text.{partition_text}
 use Rattle.sp_abacus.specs.declared.combining.CombineFault.{CombineFault}
 use Rattle.sp_abacus.specs.declared.combining.CombineFault.TheVariants as combine
@@ -9,6 +10,7 @@ use Rattle.sp_replies.specs.Words.{line_of}
 use Rattle.sp_replies.specs.declared.refusals.Refusal.{Refusal}
 use Rattle.sp_replies.specs.declared.refusals.Refusal.TheVariants.{TooLarge, LargeColumn, Stray, StrayColumn, NoPath}
 use Rattle.sp_replies.specs.declared.refusals.Refusal.TheVariants.{UnknownPainter, NotCore, WrongCount, PastDegree}
+use Rattle.sp_replies.specs.declared.refusals.Refusal.TheVariants.{Malformed, WrongColumn}
 
 abbrev pub refusal_line : Refusal → List ℕ
 refusal_line TooLarge = line_of (codes "error 9 too large")
@@ -22,6 +24,8 @@ refusal_line UnknownPainter = line_of (codes "error 14 unknown painter")
 refusal_line NotCore = line_of (codes "error 18 not a core")
 refusal_line WrongCount = line_of (codes "error 18 not e quotients")
 refusal_line PastDegree = line_of (codes "error 18 degree past 30")
+refusal_line (Malformed line) = line_of (codes "error 15 certificate malformed at line " ++ decimal line)
+refusal_line (WrongColumn column) = line_of (codes "error 16 certificate wrong at column " ++ partition_text column)
 
 -- As a row is refused that a command asks for alone.
 abbrev pub by_row : Refused → Refusal

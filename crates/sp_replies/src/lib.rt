@@ -10,6 +10,8 @@ mod orders;
 mod refusals;
 mod rows;
 mod signatures;
+#[cfg(test)]
+mod tests;
 mod vectors;
 mod words;
 

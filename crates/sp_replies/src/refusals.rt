@@ -1,10 +1,12 @@
 // Why a command that was read is refused.
 ghost use Rattle.std.specs.Prelude.{◌≡◌, ◌++◌, OnOk, codes};
+ghost use Rattle.std.specs.Fmt.{decimal};
 ghost use Rattle.sp_defs.specs.Text.{partition_text};
 ghost use Rattle.sp_replies.specs.Refusals.{by_column, by_combining, by_row, refusal_line};
 ghost use Rattle.sp_replies.specs.Words.{line_of};
 
 use sp_abacus::CombineFault;
+use sp_base::put_number;
 use sp_llt::{FirstRefused, Refused};
 use sp_partition::Partition;
 use std::alloc::{AllocError, Global};
@@ -30,6 +32,10 @@ pub enum Refusal {
     WrongCount,
     /// The partition would have too many nodes.
     PastDegree,
+    /// This line of a certificate, counted from 1, is not one of those that are allowed in its place.
+    Malformed { line: u64 },
+    /// This column of a certificate is not the row, or these are not its shares.
+    WrongColumn { column: Partition },
 }
 
 impl From<Refused> for Refusal {
@@ -96,6 +102,12 @@ pub fn put_refusal(alloc: Global, why: &Refusal, out: &mut Vec<u8>) -> Result<()
         Refusal::NotCore => out.extend_from_slice(b"error 18 not a core\n"),
         Refusal::WrongCount => out.extend_from_slice(b"error 18 not e quotients\n"),
         Refusal::PastDegree => out.extend_from_slice(b"error 18 degree past 30\n"),
+        Refusal::Malformed { line } => {
+            put_numbered(alloc, b"error 15 certificate malformed at line ", *line, out)
+        }
+        Refusal::WrongColumn { column } => {
+            put_named(alloc, b"error 16 certificate wrong at column ", column, out)
+        }
     }
 }
 
@@ -129,5 +141,19 @@ pub fn put_named(
 {
     out.extend_from_slice(text)?;
     p.print(alloc, out)?;
+    out.extend_from_slice(b"\n")
+}
+
+// Appends a line of a text and a number.
+fn put_numbered(
+    alloc: Global,
+    text: &[u8],
+    number: u64,
+    out: &mut Vec<u8>,
+) -> Result<(), AllocError>
+    ensures { OnOk result (out.new.items ≡ out.old.items ++ line_of (text.now ++ decimal number)) }
+{
+    out.extend_from_slice(text)?;
+    put_number(alloc, out, i128::from(number))?;
     out.extend_from_slice(b"\n")
 }

@@ -6,7 +6,8 @@ use Rattle.sp_fock_law.specs.Grid.{GridValue}
 use Rattle.sp_paint.specs.Page.{page_of}
 use Rattle.sp_paint.specs.State.{PainterState, named_by_form, next_of}
 use Rattle.sp_paint.specs.declared.form.Form.TheVariants.{Plain, Tex, Gap}
-use Rattle.sp_session.specs.State.{is_empty, page_by, painters_after, standard_painters}
+use Rattle.sp_session.specs.Easel.{is_empty, page_by, painters_after}
+use Rattle.sp_session.specs.State.{standard_painters}
 
 -- A place that isn't past the last is one of the list's, where there is any.
 pub chosen_within : {X : Type 0} (state : X → PainterState) (xs : List X) (place : ℕ) → place ≤ length xs - 1 →

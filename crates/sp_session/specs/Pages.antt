@@ -5,25 +5,25 @@ use Rattle.sp_replies.specs.Refusals.{refusal_line}
 use Rattle.sp_replies.specs.Words.{line_of}
 use Rattle.sp_replies.specs.declared.refusals.Refusal.{Refusal}
 use Rattle.sp_replies.specs.declared.refusals.Refusal.TheVariants.{UnknownPainter}
-use Rattle.sp_session.specs.State.{State, after_page, has_none, page_text, place_of}
+use Rattle.sp_session.specs.Easel.{EaselState, after_page, has_none, page_text, place_of}
 
 -- The name of the painter that is chosen, if there is one.
-abbrev pub choice_text : State → List ℕ → List ℕ
-choice_text state name =
-    cond (is_some (place_of state name)) (line_of (codes "painter " ++ name)) (refusal_line UnknownPainter)
+abbrev pub choice_text : EaselState → List ℕ → List ℕ
+choice_text easel name =
+    cond (is_some (place_of easel name)) (line_of (codes "painter " ++ name)) (refusal_line UnknownPainter)
 
-abbrev pub page_or_line : State → Result GridValue Refusal → List ℕ
-page_or_line state (Ok grid) = page_text state grid
-page_or_line state (Err why) = refusal_line why
+abbrev pub page_or_line : EaselState → Result GridValue Refusal → List ℕ
+page_or_line easel (Ok grid) = page_text easel grid
+page_or_line easel (Err why) = refusal_line why
 
 -- A page of the chosen painter, if there are painters and there is a grid.
-abbrev pub shown_text : State → Result GridValue Refusal → List ℕ
-shown_text state table = cond (has_none state) (refusal_line UnknownPainter) (page_or_line state table)
+abbrev pub shown_text : EaselState → Result GridValue Refusal → List ℕ
+shown_text easel table = cond (has_none easel) (refusal_line UnknownPainter) (page_or_line easel table)
 
-abbrev pub page_or_same : State → Result GridValue Refusal → State
-page_or_same state (Ok grid) = after_page state grid
-page_or_same state (Err why) = state
+abbrev pub page_or_same : EaselState → Result GridValue Refusal → EaselState
+page_or_same easel (Ok grid) = after_page easel grid
+page_or_same easel (Err why) = easel
 
 -- What it leaves.
-abbrev pub after_shown : State → Result GridValue Refusal → State
-after_shown state table = cond (has_none state) state (page_or_same state table)
+abbrev pub after_shown : EaselState → Result GridValue Refusal → EaselState
+after_shown easel table = cond (has_none easel) easel (page_or_same easel table)

@@ -2,8 +2,8 @@
 ghost use Rattle.std.specs.Prelude.{◌≡◌, ◌<◌, ◌++◌, ◌≤◌, ◌-◌, false, length, flat_map, is_some, map, OnOk};
 ghost use Rattle.sp_paint.specs.Page.{page_of, trailer_of};
 ghost use Rattle.sp_paint.specs.State.{next_of};
-ghost use Rattle.sp_session.specs.State.{State, after_page, choose, closing, has_none, opening, page_by};
-ghost use Rattle.sp_session.specs.State.{page_text, painters_after, place_of};
+ghost use Rattle.sp_session.specs.Easel.{EaselState, after_page, choose, first_chosen, has_none, page_by, page_text};
+ghost use Rattle.sp_session.specs.Easel.{painters_after, place_of, trailers};
 
 use sp_fock::Grid;
 use sp_paint::{Painter, choose};
@@ -19,7 +19,7 @@ pub(crate) struct Easel {
 
 /// What is known by plain data.
 pub(crate) trait Remembers {
-    ghost memory: { Self → State };
+    ghost memory: { Self → EaselState };
 }
 
 impl Remembers for Easel {
@@ -34,7 +34,7 @@ impl Remembers for Easel {
 impl Easel {
     /// The first painter is chosen.
     pub(crate) fn new(painters: Vec<Box<dyn Painter>>) -> Easel
-        ensures { ⟦<Easel as Remembers>⟧.memory result ≡ opening (map (λ b. state b) painters.items) }
+        ensures { ⟦<Easel as Remembers>⟧.memory result ≡ first_chosen (map (λ b. state b) painters.items) }
     {
         Easel {
             chosen: 0,
@@ -82,9 +82,9 @@ impl Easel {
     }
 
     /// Appends the trailers of all painters, in order. An `Err` leaves `out` unspecified.
-    #[tactic(auto, unfolding(crate::specs::State::closing))]
+    #[tactic(auto, unfolding(crate::specs::Easel::trailers))]
     pub(crate) fn close(&self, alloc: Global, out: &mut Vec<u8>) -> Result<(), AllocError>
-        ensures { OnOk result (out.new.items ≡ out.old.items ++ closing (⟦<Easel as Remembers>⟧.memory self.now)) }
+        ensures { OnOk result (out.new.items ≡ out.old.items ++ trailers (⟦<Easel as Remembers>⟧.memory self.now)) }
     {
         put_trailers(&self.painters, alloc, out)
     }

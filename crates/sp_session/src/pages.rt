@@ -1,7 +1,7 @@
 // Answers that choose a painter or show a grid.
 ghost use Rattle.std.specs.Prelude.{◌≡◌, ◌++◌, ◌≤◌, ◌<◌, ◌^◌, OnOk};
 ghost use Rattle.sp_session.specs.Pages.{after_shown, choice_text, shown_text};
-ghost use Rattle.sp_session.specs.State.{choose};
+ghost use Rattle.sp_session.specs.Easel.{choose};
 ghost use Rattle.sp_session.specs.Tables.{IsSubject, table_of};
 
 use crate::easel::{Easel, Remembers};

@@ -1,15 +1,19 @@
-// The reply to a line.
+// The reply to a line that belongs to no certificate.
 ghost use Rattle.std.specs.Prelude.{◌≡◌, ◌++◌, ◌≤◌, ◌<◌, ◌^◌, OnOk};
+ghost use Rattle.sp_checking.specs.SoFar.{begun};
 ghost use Rattle.sp_lang.specs.Given.{IsCommand};
 ghost use Rattle.sp_lang.specs.Reading.{reading};
-ghost use Rattle.sp_session.specs.Reply.{answer_to, next, reply, state_after};
+ghost use Rattle.sp_session.specs.Reply.{answer_or_fault, answer_to, certificate_after, certificate_or_same};
+ghost use Rattle.sp_session.specs.Reply.{easel_after, easel_or_same};
 
+use crate::certificates::put_certificate;
 use crate::easel::{Easel, Remembers};
 use crate::fillers::Filler;
 use crate::modules::{put_dims, put_schaper};
 use crate::pages::{put_choice, put_page};
 use crate::tables::Subject;
 use sp_abacus::abacus_text;
+use sp_checking::Checking;
 use sp_lang::{Command, LineFault, read_command};
 use sp_nodes::{diagram_text, hooks_text};
 use sp_replies::{
@@ -19,38 +23,42 @@ use sp_replies::{
 };
 use std::alloc::{AllocError, Global};
 
-/// Appends the reply to a line: the answer to its command, or its first fault. An `Err` leaves `out` and the painters
-/// unspecified.
-#[tactic(auto, unfolding(crate::specs::Reply::reply, crate::specs::Reply::next))]
+/// Appends the reply to a line: the answer to its command, or its first fault. An `Err` leaves `out`, the painters and
+/// the certificate unspecified.
 pub(crate) fn put_reply<F: Filler>(
     alloc: Global,
     limit: u128,
     filler: &F,
     easel: &mut Easel,
+    certificate: &mut Checking,
     line: &[u8],
     out: &mut Vec<u8>,
 ) -> Result<(), AllocError>
     requires least { 1 ≤ limit }
     requires most { limit < 2 ^ 127 }
     ensures text { OnOk result (out.new.items ≡
-        out.old.items ++ reply limit (⟦<Easel as Remembers>⟧.memory easel.old) line.now) }
-    ensures next { OnOk result (⟦<Easel as Remembers>⟧.memory easel.new ≡
-        next limit (⟦<Easel as Remembers>⟧.memory easel.old) line.now) }
+        out.old.items ++ answer_or_fault limit (⟦<Easel as Remembers>⟧.memory easel.old) (reading line.now)) }
+    ensures painters { OnOk result (⟦<Easel as Remembers>⟧.memory easel.new ≡
+        easel_or_same limit (⟦<Easel as Remembers>⟧.memory easel.old) (reading line.now)) }
+    ensures certificate { OnOk result
+        (certificate.new ≡ certificate_or_same certificate.old (reading line.now)) }
 {
     match read_command(alloc, line) {
-        Ok(command) => put_answer(alloc, limit, filler, easel, &command, out),
+        Ok(command) => put_answer(alloc, limit, filler, easel, certificate, &command, out),
         Err(LineFault::Memory) => Err(AllocError),
         Err(fault) => put_fault(fault, out),
     }
 }
 
 // Appends the answer to a command.
-#[tactic(auto, unfolding(crate::specs::Reply::answer_to, crate::specs::Reply::state_after))]
+#[tactic(auto, unfolding(crate::specs::Reply::answer_to, crate::specs::Reply::easel_after,
+    crate::specs::Reply::certificate_after))]
 fn put_answer<F: Filler>(
     alloc: Global,
     limit: u128,
     filler: &F,
     easel: &mut Easel,
+    certificate: &mut Checking,
     command: &Command,
     out: &mut Vec<u8>,
 ) -> Result<(), AllocError>
@@ -59,8 +67,9 @@ fn put_answer<F: Filler>(
     requires command { IsCommand command.now }
     ensures text { OnOk result (out.new.items ≡
         out.old.items ++ answer_to limit (⟦<Easel as Remembers>⟧.memory easel.old) command.now) }
-    ensures next { OnOk result (⟦<Easel as Remembers>⟧.memory easel.new ≡
-        state_after limit (⟦<Easel as Remembers>⟧.memory easel.old) command.now) }
+    ensures painters { OnOk result (⟦<Easel as Remembers>⟧.memory easel.new ≡
+        easel_after limit (⟦<Easel as Remembers>⟧.memory easel.old) command.now) }
+    ensures certificate { OnOk result (certificate.new ≡ certificate_after certificate.old command.now) }
 {
     match command {
         Command::Nothing => Ok(()),
@@ -111,5 +120,15 @@ fn put_answer<F: Filler>(
         Command::Schaper(e, n) => put_schaper(alloc, limit, filler, *e, *n, out),
         Command::Dim(p) => put_dim(alloc, p, out),
         Command::Dims(e, n) => put_dims(alloc, limit, filler, *e, *n, out),
+        Command::Certificate(e, n) => put_certificate(alloc, limit, filler, *e, *n, out),
+        Command::Check => begin(alloc, certificate),
     }
+}
+
+// Begins a certificate, which is in the lines behind this one.
+fn begin(alloc: Global, certificate: &mut Checking) -> Result<(), AllocError>
+    ensures { OnOk result (certificate.new ≡ begun) }
+{
+    *certificate = Checking::begin(alloc)?;
+    Ok(())
 }

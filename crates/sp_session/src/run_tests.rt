@@ -104,7 +104,7 @@ fn many_workers_answer_all_that_matrices_are_for(rt: HostRuntime) -> Result<(), 
 #[test]
 fn many_workers_sum_up_the_same(rt: HostRuntime) -> Result<(), Fail> {
     let alloc = rt.alloc();
-    let output = b"generated 0 lines 200 errors 44 bytes 149372 sum 6597746\n";
+    let output = b"generated 0 lines 200 errors 0 bytes 196112 sum 9901765\n";
     let counts: [&[&str]; 2] = [
         &["--generate", "0", "--workers", "1"],
         &["--workers=8", "--generate=0"],

@@ -229,7 +229,7 @@ fn comments_and_blank_lines_have_no_reply(rt: HostRuntime) -> Result<(), Fail> {
 }
 
 /// What a run writes of these bytes, and how it ends.
-fn run_of(alloc: Global, input: Vec<u8>, piece: usize) -> Result<(Status, Vec<u8>), AllocError>
+pub(crate) fn run_of(alloc: Global, input: Vec<u8>, piece: usize) -> Result<(Status, Vec<u8>), AllocError>
     requires { 0 < piece }
 {
     let mut source = MemSource::new(input, piece, Vec::new(alloc));
@@ -377,19 +377,19 @@ fn made_lines_are_summed_up(rt: HostRuntime) -> Result<(), Fail> {
     let cases: [(&'static [&'static str], &'static str); 4] = [
         (
             &["--generate", "0"],
-            "generated 0 lines 200 errors 44 bytes 149372 sum 6597746\n",
+            "generated 0 lines 200 errors 0 bytes 196112 sum 9901765\n",
         ),
         (
             &["--generate=1"],
-            "generated 1 lines 200 errors 47 bytes 119697 sum 5295800\n",
+            "generated 1 lines 200 errors 0 bytes 166734 sum 8624282\n",
         ),
         (
             &["--generate", "20261201"],
-            "generated 20261201 lines 200 errors 58 bytes 110452 sum 4878776\n",
+            "generated 20261201 lines 200 errors 0 bytes 174388 sum 9386811\n",
         ),
         (
             &["--generate=2147483647"],
-            "generated 2147483647 lines 200 errors 45 bytes 150352 sum 6589032\n",
+            "generated 2147483647 lines 200 errors 0 bytes 196078 sum 9829875\n",
         ),
     ];
     for (words, output) in cases {

@@ -1,6 +1,6 @@
 use Rattle.std.proofs.Common.{◌++◌, ◌∙◌, ap}
 use Rattle.std.proofs.lemmas.Result.{on_ok_weaker}
-use Rattle.sp_session.specs.State.{after_page, page_text}
+use Rattle.sp_session.specs.Easel.{after_page, page_text}
 use Rattle.sp_session.proofs.Painted.{chosen_within, page_at, painters_with}
 use Rattle.sp_session.proofs.easel.Easel.page.Goals as goal
 
