@@ -103,7 +103,12 @@ pub fn put_refusal(alloc: Global, why: &Refusal, out: &mut Vec<u8>) -> Result<()
         Refusal::WrongCount => out.extend_from_slice(b"error 18 not e quotients\n"),
         Refusal::PastDegree => out.extend_from_slice(b"error 18 degree past 30\n"),
         Refusal::Malformed { line } => {
-            put_numbered(alloc, b"error 15 certificate malformed at line ", *line, out)
+            put_numbered(
+                alloc,
+                b"error 15 certificate malformed at line ",
+                *line,
+                out,
+            )
         }
         Refusal::WrongColumn { column } => {
             put_named(alloc, b"error 16 certificate wrong at column ", column, out)

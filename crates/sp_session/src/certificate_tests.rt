@@ -5,11 +5,13 @@ use std::alloc::{AllocError, Global};
 use std::test::Fail;
 
 /// The certificate of degree 5 at e = 2, in version 1, in lines.
-const FIRST: &str = "certificate 1\ne 2\ndegree 5\ncolumn 3,2\nentry 3,2 1\nentry 3,1^2 v\nentry 2^2,1 v^2\n\
+const FIRST: &str =
+    "certificate 1\ne 2\ndegree 5\ncolumn 3,2\nentry 3,2 1\nentry 3,1^2 v\nentry 2^2,1 v^2\n\
                      column 4,1\nentry 4,1 1\nentry 2,1^3 v\ncolumn 5\nshare 3,2 1\nentry 5 1\nentry 3,1^2 v\nentry 1^5 v^2\nend";
 
 /// The same in version 2.
-const SECOND: &str = "certificate 2\ne 2\ndegree 5\nblock 3 2\ncolumn 3,2\nentry 3,2 1\nentry 3,1^2 v\n\
+const SECOND: &str =
+    "certificate 2\ne 2\ndegree 5\nblock 3 2\ncolumn 3,2\nentry 3,2 1\nentry 3,1^2 v\n\
                       entry 2^2,1 v^2\ncolumn 5\nshare 3,2 1\nentry 5 1\nentry 3,1^2 v\nentry 1^5 v^2\nblock 2 3\n\
                       column 4,1\nentry 4,1 1\nentry 2,1^3 v\nend";
 
@@ -54,7 +56,8 @@ fn answers(alloc: Global, input: Vec<u8>, output: &str) -> Result<bool, AllocErr
 #[test]
 fn certificates_are_written(rt: HostRuntime) -> Result<(), Fail> {
     let alloc = rt.alloc();
-    let output = "certificate 2\ne 2\ndegree 5\nblock 3 2\ncolumn 3,2\nentry 3,2 1\nentry 3,1^2 v\nentry 2^2,1 v^2\n\
+    let output =
+        "certificate 2\ne 2\ndegree 5\nblock 3 2\ncolumn 3,2\nentry 3,2 1\nentry 3,1^2 v\nentry 2^2,1 v^2\n\
                   column 5\nshare 3,2 1\nentry 5 1\nentry 3,1^2 v\nentry 1^5 v^2\nblock 2 3\ncolumn 4,1\nentry 4,1 1\n\
                   entry 2,1^3 v\nend\n";
     assert!(rt; gives(alloc, "certificate 2 5\n", output)?);
@@ -112,13 +115,17 @@ fn a_changed_line_is_named(rt: HostRuntime) -> Result<(), Fail> {
             "error 15 certificate malformed at line 5\n",
         ),
         (5, "", "error 15 certificate malformed at line 5\n"),
+        (8, "column 5", "error 15 certificate malformed at line 8\n"),
         (
-            8,
-            "column 5",
-            "error 15 certificate malformed at line 8\n",
+            12,
+            "share 5 1",
+            "error 15 certificate malformed at line 12\n",
         ),
-        (12, "share 5 1", "error 15 certificate malformed at line 12\n"),
-        (12, "share 3,2 0", "error 15 certificate malformed at line 12\n"),
+        (
+            12,
+            "share 3,2 0",
+            "error 15 certificate malformed at line 12\n",
+        ),
         (
             12,
             "share 3,2 2",
@@ -140,21 +147,25 @@ fn a_changed_line_is_named(rt: HostRuntime) -> Result<(), Fail> {
             "entry 3,1^2 2v",
             "error 16 certificate wrong at column 3,2\n",
         ),
-        (1, "certificate 3", "error 15 certificate malformed at line 1\n"),
-        (1, "certificate 2", "error 15 certificate malformed at line 4\n"),
-        (1, "# certificate", "error 15 certificate malformed at line 1\n"),
+        (
+            1,
+            "certificate 3",
+            "error 15 certificate malformed at line 1\n",
+        ),
+        (
+            1,
+            "certificate 2",
+            "error 15 certificate malformed at line 4\n",
+        ),
+        (
+            1,
+            "# certificate",
+            "error 15 certificate malformed at line 1\n",
+        ),
         (2, "check", "error 15 certificate malformed at line 2\n"),
         (2, "e 65", "error 15 certificate malformed at line 2\n"),
-        (
-            16,
-            "end ",
-            "error 15 certificate malformed at line 16\n",
-        ),
-        (
-            16,
-            " end",
-            "error 15 certificate malformed at line 16\n",
-        ),
+        (16, "end ", "error 15 certificate malformed at line 16\n"),
+        (16, " end", "error 15 certificate malformed at line 16\n"),
     ];
     for (number, line, output) in cases {
         let input = with_line(alloc, FIRST, number, line)?;
@@ -255,7 +266,8 @@ fn the_line_behind_a_certificate_is_a_command_again(rt: HostRuntime) -> Result<(
 
 #[test]
 fn a_certificate_is_checked_under_the_limit(rt: HostRuntime) -> Result<(), Fail> {
-    let input = "check\ncertificate 1\ne 2\ndegree 5\ncolumn 3,2\nentry 3,2 1\nentry 3,1^2 v\nentry 2^2,1 v^2\n\
+    let input =
+        "check\ncertificate 1\ne 2\ndegree 5\ncolumn 3,2\nentry 3,2 1\nentry 3,1^2 v\nentry 2^2,1 v^2\n\
                  column 4,1\nentry 4,1 1\nentry 2,1^3 v\ncolumn 5\nshare 3,2 1\nentry 5 1\nentry 3,1^2 v\n\
                  entry 1^5 v^2\nend\n";
     let cases: [(&'static [&'static str], &'static str); 3] = [

@@ -51,8 +51,7 @@ pub(crate) fn put_reply<F: Filler>(
 }
 
 // Appends the answer to a command.
-#[tactic(auto, unfolding(crate::specs::Reply::answer_to, crate::specs::Reply::easel_after,
-    crate::specs::Reply::certificate_after))]
+#[tactic(auto, unfolding(crate::specs::Reply::answer_to, crate::specs::Reply::easel_after, crate::specs::Reply::certificate_after))]
 fn put_answer<F: Filler>(
     alloc: Global,
     limit: u128,

@@ -229,7 +229,11 @@ fn comments_and_blank_lines_have_no_reply(rt: HostRuntime) -> Result<(), Fail> {
 }
 
 /// What a run writes of these bytes, and how it ends.
-pub(crate) fn run_of(alloc: Global, input: Vec<u8>, piece: usize) -> Result<(Status, Vec<u8>), AllocError>
+pub(crate) fn run_of(
+    alloc: Global,
+    input: Vec<u8>,
+    piece: usize,
+) -> Result<(Status, Vec<u8>), AllocError>
     requires { 0 < piece }
 {
     let mut source = MemSource::new(input, piece, Vec::new(alloc));
