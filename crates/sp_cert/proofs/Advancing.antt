@@ -1,6 +1,7 @@
 -- What is held behind one line more.
 use Rattle.std.proofs.Common.{◌≡◌, ℕ, suc, ◌+◌, ◌<◌, ◌≤◌, Bool, true, false, cond, List, [], ◌∷◌, ◌++◌, map, flat_map}
-use Rattle.std.proofs.Common.{length, get_or, take, drop, sym, ◌∙◌, ap, ap₂, subst, arith, Option, Some, None, Vec, Global}
+use Rattle.std.proofs.Common.{length, get_or, take, drop, sym, ◌∙◌, ap, ap₂, subst, arith, Option, Some, None}
+use Rattle.std.proofs.Common.{Vec, Global}
 use Rattle.std.specs.List.{AllByRecursion}
 use Rattle.std.specs.Option.{option_map}
 use Rattle.std.proofs.lemmas.List.{get_or-map, length-map, map-append}

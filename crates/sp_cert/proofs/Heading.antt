@@ -1,5 +1,6 @@
 -- Lists of heads that are made one after the other.
-use Rattle.std.proofs.Common.{◌≡◌, ◌≢◌, ne_eqb, ℕ, ◌+◌, ◌<◌, Bool, true, false, cond, not, nat_eq, List, [], ◌∷◌, ◌++◌, map, filter}
+use Rattle.std.proofs.Common.{◌≡◌, ◌≢◌, ne_eqb, ℕ, ◌+◌, ◌<◌, Bool, true, false, cond, not, nat_eq, List, []}
+use Rattle.std.proofs.Common.{◌∷◌, ◌++◌, map, filter}
 use Rattle.std.proofs.Common.{flat_map, length, get_or, take, refl, sym, ◌∙◌, ap, subst, append_assoc}
 use Rattle.std.specs.List.{list_any}
 use Rattle.std.proofs.lemmas.List.{take_more, map-append, append-nil, get_or_default}

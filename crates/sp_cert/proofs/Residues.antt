@@ -1,6 +1,6 @@
 -- Contents of partitions, by test.
-use Rattle.std.proofs.Common.{◌≡◌, ℕ, ◌+◌, ◌-◌, ◌*◌, ◌<◌, ◌≤◌, nat_eq, List, [], ◌∷◌, count_by, refl, sym, ◌∙◌, ap, arith}
-use Rattle.std.proofs.Common.{true, cond, ◌⊎◌, inl, inr, ne_eqb, zero-add}
+use Rattle.std.proofs.Common.{◌≡◌, ℕ, ◌+◌, ◌-◌, ◌*◌, ◌<◌, ◌≤◌, nat_eq, List, [], ◌∷◌, count_by, refl, sym}
+use Rattle.std.proofs.Common.{◌∙◌, ap, arith, true, cond, ◌⊎◌, inl, inr, ne_eqb, zero-add}
 use Rattle.std.proofs.Math.Nat.{mod-lt}
 use Rattle.std.proofs.lemmas.Bool.{eqb-true}
 use Rattle.std.proofs.lemmas.List.Sums.{sum_by-cons}

@@ -50,9 +50,9 @@ impl Reader {
 
     /// What comes of the next line, which has no newline.
     ///
-    /// `Malformed`, with the number of the line from 1, exactly where the line isn't allowed behind those before it, and
-    /// `Whole` exactly at an `end` that is allowed, with the certificate that the lines spell. There is no other fault but
-    /// `Memory`.
+    /// `Malformed`, with the number of the line from 1, exactly where the line isn't allowed behind those before it,
+    /// and `Whole` exactly at an `end` that is allowed, with the certificate that the lines spell. There is no other
+    /// fault but `Memory`.
     pub fn line(self, text: &[u8]) -> Result<Progress, CertFault>
         ensures progress { IfOk result (IsProgress self text.now) }
         ensures refused { IfErr result (IsRefused self text.now) }

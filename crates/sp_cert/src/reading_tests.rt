@@ -54,8 +54,8 @@ fn said(alloc: Global, reader: Reader, line: &[u8]) -> Result<Outcome, Fail> {
     }
 }
 
-/// What is said of these lines, up to the first that isn't allowed, or to the end, or of the line that is awaited behind
-/// them.
+/// What is said of these lines, up to the first that isn't allowed, or to the end, or of the line that is awaited
+/// behind them.
 fn reply(alloc: Global, text: &[u8]) -> Result<Vec<u8>, Fail> {
     let mut reader = Some(Reader::new(alloc)?);
     for line in text.split(|byte| *byte == b'\n') {

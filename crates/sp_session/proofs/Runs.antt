@@ -109,8 +109,8 @@ module _ {Source Sink : Type 0}
       source sink now_sink status) (sym some) (record {
         unread = refl;
         reply =
-            subst (λ r. IsOneReply written sink_steady sink_faults (summary_line r (opening painters) start) sink now_sink
-            status) rules_is
+            subst (λ r. IsOneReply written sink_steady sink_faults (summary_line r (opening painters) start) sink
+            now_sink status) rules_is
             (subst (λ s. IsOneReply written sink_steady sink_faults (summary_line rules s start) sink now_sink status)
             state_is reply);
       })

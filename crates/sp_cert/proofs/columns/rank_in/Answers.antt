@@ -12,7 +12,8 @@ Rises list = (i j : ℕ) → i < j → j < length list → order (get_or list i 
 
 pub rank-requires : goal.rank-requires
 rank-requires c =
-    subst Rises (sym (c.deref.ensures.value ∙ c.requires.header.regulars)) (regulars_rise c.args.header.now.e c.args.header.now.degree)
+    subst Rises (sym (c.deref.ensures.value ∙ c.requires.header.regulars))
+    (regulars_rise c.args.header.now.e c.args.header.now.degree)
 
 pub unreachable-requires : goal.unreachable-requires
 unreachable-requires c =
@@ -26,4 +27,5 @@ returns c =
     let found = (c.in-Some.ensures.some c.in-Some.k).0 refl in
     place_rank c.args.header.now.e c.args.header.now.degree c.in-Some.k c.args.mu.now []
     (subst (λ xs. c.in-Some.k < length xs) (c.deref.ensures.value ∙ c.requires.header.regulars) found.0)
-    (ap (λ xs. get_or xs c.in-Some.k []) (sym (c.deref.ensures.value ∙ c.requires.header.regulars)) ∙ found.1) c.requires.regular.total
+    (ap (λ xs. get_or xs c.in-Some.k []) (sym (c.deref.ensures.value ∙ c.requires.header.regulars)) ∙ found.1)
+    c.requires.regular.total
