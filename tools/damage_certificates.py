@@ -119,22 +119,25 @@ def main():
         limit = rnd.choice(LIMITS)
         found = session.replies(data, session.Settings(STAGE, limit or 2**127 - 1))
         ran = subprocess.run(program + (["--limit", str(limit)] if limit else []), input=data, stdout=subprocess.PIPE)
-        replies = [(lines, text) for lines, text in found if text]
-        given = ran.stdout.decode("ascii").split("\n")[:-1]
-        if ran.returncode or len(given) != len(replies):
-            print(f"status {ran.returncode}, {len(given)} replies, {len(replies)} expected, with the limit {limit}")
+        given = ran.stdout.decode("ascii")
+        if ran.returncode:
+            print(f"status {ran.returncode}, with the limit {limit}")
             differences += 1
-        for answer, (lines, text) in zip(given, replies):
-            compared += 1
-            if answer + "\n" != text:
+        # a line behind an `end` may be a command with a reply of many lines
+        for lines, text in found:
+            answer, given = given[: len(text)], given[len(text) :]
+            compared += bool(text)
+            if answer != text:
                 differences += 1
                 shown = "\n".join(line.decode("ascii") for line in lines)
                 print(f"{answer}\nin place of\n{text}at\n{shown}")
+                break
             if answer.startswith("accepted "):
                 accepted += 1
                 if not holds_rows(cert, rows, [line.decode("ascii") for line in lines[1:]]):
                     refused_rows += 1
                     print("accepted, but does not hold the rows")
+        differences += bool(given)
     print(f"{compared} replies, {differences} differences")
     print(f"{accepted} accepted, {refused_rows} of these without the rows")
     return 1 if differences or refused_rows else 0
