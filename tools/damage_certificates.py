@@ -6,13 +6,15 @@ Usage: tools/damage_certificates.py ORACLE [PROGRAM [REPLIES [SEED]]], by defaul
 ORACLE is a folder with an independent program in Python, which is no part of this repository: its modules `cert`,
 `rows` and `session` write certificates of both versions, give rows and shares, and answer a whole input.
 
-Each input has some hundred certificates of small degrees behind lines `check`. Each has up to three damages: it is cut,
-two lines are exchanged, a digit is changed, a line is dropped or doubled, or stands in for another of its kind. Where
-the line `end` is lost it is put back, but for the last certificate of an input. Prints how many replies were compared,
-how many certificates were accepted, and how many of these list a row or shares that are not those of the independent
-program. Ends with 1 where a reply differs or an accepted certificate does not hold the rows.
-"""
+First each certificate of degree 5 at e = 2 with one damage: every cut, every exchange of two lines, every digit
+changed to every other. Then inputs at random: each has some hundred certificates of small degrees behind lines
+`check`, each with up to three damages: it is cut, two lines are exchanged, a digit is changed, a line is dropped or
+doubled, or stands in for another of its kind. Where the line `end` is lost it is put back, but for the last
+certificate of an input. Prints how many replies were compared, how many certificates were accepted, and how many of
+these list a row or shares that are not those of the independent program. Ends with 1 where a reply differs or an
+accepted certificate does not hold the rows. """
 
+import itertools
 import os
 import random
 import shlex
@@ -87,6 +89,21 @@ def an_input(rnd, whole):
     return found
 
 
+def single_damages(lines):
+    """The inputs of a certificate with one damage, each with a command behind it where the certificate has an end."""
+    text = "".join(line + "\n" for line in lines)
+    for place in range(len(text) + 1):
+        yield "check\n" + text[:place]
+    for one, two in itertools.combinations(range(len(lines)), 2):
+        other = list(lines)
+        other[one], other[two] = other[two], other[one]
+        yield "check\n" + "\n".join(other) + "\nend\nconjugate 3,1\n"
+    for place, letter in enumerate(text):
+        for digit in "0123456789" if letter.isdigit() else "":
+            if digit != letter:
+                yield "check\n" + text[:place] + digit + text[place + 1 :] + "conjugate 3,1\n"
+
+
 def holds_rows(cert, rows, lines):
     """Whether the certificate in the lines behind a `check` lists the rows, and their shares that are not 0."""
     kind, certificate = cert.read(lines, GREATEST_DEGREES)
@@ -108,15 +125,18 @@ def main():
     import session
 
     rnd = random.Random(seed)
-    whole = []
+    whole = {}
     for e, n in LEVELS:
         all_rows = {mu: rows.regular_row(e, mu) for mu in cert.P.regular_of(e, n)}
-        whole += [cert.write(version, e, n, all_rows).split("\n") for version in (1, 2)]
+        for version in (1, 2):
+            whole[version, e, n] = cert.write(version, e, n, all_rows).removesuffix("\n").split("\n")
 
     compared = differences = accepted = refused_rows = 0
-    while compared < most:
-        data = "\n".join(an_input(rnd, whole)).encode("ascii")
-        limit = rnd.choice(LIMITS)
+
+    def compare(text, limit):
+        """Answers an input by both programs."""
+        nonlocal compared, differences, accepted, refused_rows
+        data = text.encode("ascii")
         found = session.replies(data, session.Settings(STAGE, limit or 2**127 - 1))
         ran = subprocess.run(program + (["--limit", str(limit)] if limit else []), input=data, stdout=subprocess.PIPE)
         given = ran.stdout.decode("ascii")
@@ -124,20 +144,28 @@ def main():
             print(f"status {ran.returncode}, with the limit {limit}")
             differences += 1
         # a line behind an `end` may be a command with a reply of many lines
-        for lines, text in found:
-            answer, given = given[: len(text)], given[len(text) :]
-            compared += bool(text)
-            if answer != text:
+        for lines, reply in found:
+            answer, given = given[: len(reply)], given[len(reply) :]
+            compared += bool(reply)
+            if answer != reply:
                 differences += 1
                 shown = "\n".join(line.decode("ascii") for line in lines)
-                print(f"{answer}\nin place of\n{text}at\n{shown}")
-                break
+                print(f"{answer}\nin place of\n{reply}at\n{shown}")
+                return
             if answer.startswith("accepted "):
                 accepted += 1
                 if not holds_rows(cert, rows, [line.decode("ascii") for line in lines[1:]]):
                     refused_rows += 1
                     print("accepted, but does not hold the rows")
         differences += bool(given)
+
+    for version in (1, 2):
+        for text in single_damages(whole[version, 2, 5]):
+            compare(text, None)
+    print(f"one damage each: {compared} replies, {differences} differences", flush=True)
+    most += compared
+    while compared < most:
+        compare("\n".join(an_input(rnd, list(whole.values()))), rnd.choice(LIMITS))
     print(f"{compared} replies, {differences} differences")
     print(f"{accepted} accepted, {refused_rows} of these without the rows")
     return 1 if differences or refused_rows else 0

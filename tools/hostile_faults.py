@@ -3,12 +3,12 @@
 
 Usage: tools/hostile_faults.py PROGRAM...     the paths of `specht` and `specht_one`
 
-A small library (tools/refuse.c, built with `cc`) is laid over the C library, and each program runs once for each call that
-is refused: each growth over rows, pages and a certificate, with 2 workers where there are many; each read and each write
-at pieces of 1, 2, 3, 7 and 4,096 bytes over an input with every command. Where memory is refused, the run ends out of
-memory with whole replies written, or as ever. Where a read or a write fails, what was written is exactly what
-docs/COMMANDS.md says. The counts are printed, and each case that is not so; the status is 1 where there was one.
-"""
+A small library (tools/refuse.c, built with `cc`) is laid over the C library, and each program runs once for each
+call that is refused: each growth over rows, pages and a certificate, with 2 workers where there are many; each read
+and each write at pieces of 1, 2, 3, 7 and 4,096 bytes over an input with every command. Where memory is refused,
+the run ends out of memory with whole replies written, or as ever. Where a read or a write fails, what was written
+is exactly what docs/COMMANDS.md says. The counts are printed, and each case that is not so; the status is 1 where
+there was one. """
 
 import concurrent.futures
 import os
@@ -22,9 +22,11 @@ PIECES = [1, 2, 3, 7, 4096]
 ROWS = b"row 2 7\ncrystal 2 6\nrow 3 6,4\nschaper 2 5\ndims 3 6\n"
 CERTIFICATE = b"certificate 2 5\ncheck\n"
 EVERY = (
-    b"# every command\n\npartitions 4\nregular 2 5\nconjugate 3,1\ndominates 3,1 2^2\ndiagram 3 3,1\nhooks 3,1\ncontent 3 4\n"
+    b"# every command\n\npartitions 4\nregular 2 5\nconjugate 3,1\ndominates 3,1 2^2\ndiagram 3 3,1\nhooks 3,1\n"
+    b"content 3 4\n"
     b"core 3 4\ncombine 3 1 1|-|-\nabacus 3 4\ngood 2 4\npath 2 3,1\nmullineux 3 3,1\ninduce 2 0 1 2,1\nladders 2 3,1\n"
-    b"ladder 2 3,1\nrow 2 5\nrow 2 2^2\npainter tex\ncrystal 2 3\npainter gap\ndecomposition 2 3\npainter none\npainter plain\n"
+    b"ladder 2 3,1\nrow 2 5\nrow 2 2^2\npainter tex\ncrystal 2 3\npainter gap\ndecomposition 2 3\n"
+    b"painter none\npainter plain\n"
     b"block 2 1 1\njantzen 3 1^3\nschaper 2 4\ndim 3,1\ndims 2 4\nno command\ncertificate 2 2\n"
     b"check\ncertificate 1\ne 2\ndegree 2\ncolumn 2\nentry 2 1\nentry 1^2 v\nend\n"
     b"check\nno certificate\nend\ndim 1\n"
@@ -138,20 +140,21 @@ def main():
     with tempfile.TemporaryDirectory() as folder:
         library = Library(folder)
         for path in map(os.path.abspath, sys.argv[1:]):
-            many = os.path.basename(path) == "specht"
+            name = os.path.basename(path)
+            many = name == "specht"
             program = [path, "--workers", "2"] if many else [path]
             certificate = library.run(program, CERTIFICATE.splitlines(keepends=True)[0])[1]
             for data in [ROWS, CERTIFICATE + certificate]:
                 runs, starved = refuse_each(library, program, data, "growth", 0, wrong)
-                print(f"{os.path.basename(path)}: {runs} growths refused in turn, {starved} runs ended out of memory", flush=True)
+                print(f"{name}: {runs} growths refused in turn, {starved} runs ended out of memory", flush=True)
             if many:
                 runs, starved = refuse_each(library, program, ROWS, "thread", 3, wrong)
-                print(f"specht: {runs} starts of threads refused in turn, {starved} runs ended out of memory", flush=True)
+                print(f"{name}: {runs} starts of threads refused in turn, {starved} ended out of memory", flush=True)
             ends, whole = replies(library, program, EVERY)
             for piece in PIECES:
                 reads = fail_each_read(library, program, piece, ends, whole, EVERY, wrong)
                 writes = fail_each_write(library, program, piece, whole, EVERY, wrong)
-                print(f"{os.path.basename(path)}, pieces of {piece}: {reads} reads and {writes} writes failed in turn", flush=True)
+                print(f"{name}, pieces of {piece}: {reads} reads and {writes} writes failed in turn", flush=True)
     for line in wrong[:40]:
         print(line)
     print(f"hostile faults: {len(wrong)} wrong")

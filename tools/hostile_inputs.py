@@ -3,9 +3,8 @@
 
 Usage: tools/hostile_inputs.py PROGRAM...     the paths of `specht` and `specht_one`
 
-Each input has up to 16 MiB. The time is compared with that of `wc` on the same bytes, and each input has a bound of its own
-on both. One line is printed for each; the status is 1 where a bound was passed or an answer was another than it must be.
-"""
+Each input has up to 16 MiB, and bounds of its own on both; the time of `wc` on the same bytes stands beside. One
+line is printed for each; the status is 1 where a bound was passed or an answer was another than it must be. """
 
 import os
 import random
@@ -44,6 +43,14 @@ def long_polynomial():
         yield b"+%dv^%d" % (10**38, power + 1)
 
 
+def many_terms():
+    """An entry whose polynomial is read: all its coefficients are 1."""
+    yield b"entry 3,2 1+v"
+    for power in range(2, 1_600_000):
+        yield b"+v^%d" % power
+    yield b"\n"
+
+
 # Each input: its name, its bytes in pieces, what its output begins with, and the bounds on seconds and on MB. A run
 # over the rows of degree 30 is stopped after ten seconds: it answers some dozens of them in each.
 INPUTS = [
@@ -59,6 +66,7 @@ INPUTS = [
     ("a certificate that never ends", certificate(filled(b"entry 3,2 1\n", LIMIT - 99)), b"error 15 ", 3, 64),
     ("one line in a certificate", certificate([b"entry 3,2 "], filled(b"1", LIMIT - 99)), b"error 15 ", 3, 96),
     ("a long polynomial", certificate(long_polynomial()), b"error 15 ", 6, 200),
+    ("a polynomial of many terms", certificate(many_terms()), b"error 15 ", 3, 200),
     ("one column many times", certificate(filled(b"column 3,2\n", LIMIT - 99)), b"error 15 ", 3, 64),
     ("certificates without lines", filled(b"check\nend\n"), b"error 15 certificate malformed at line 1\n", 6, 24),
 ]
@@ -92,10 +100,8 @@ def look(program, name, path, out, begins, most_seconds, most_mb):
         answered = file.read(len(begins)) == begins
     fine = code in (None, 0) and answered and mb <= most_mb and (not most_seconds or seconds <= most_seconds)
     size = os.path.getsize(path) / 1_048_576
-    print(
-        f"{os.path.basename(program):10} {name:30} {size:5.1f} MiB {seconds:6.2f} s {mb:5.0f} MB{'' if fine else '  WRONG'}",
-        flush=True,
-    )
+    told = f"{os.path.basename(program):10} {name:30} {size:5.1f} MiB {seconds:6.2f} s {mb:5.0f} MB"
+    print(told if fine else f"{told}  WRONG", flush=True)
     return fine
 
 

@@ -185,7 +185,7 @@ def replies_of(program, data):
 
 
 def look_at_memory(watch, program):
-    """The address space limited at 40 sizes: a run that starts ends with all replies, or out of memory with whole ones."""
+    """The address space limited at 40 sizes: all replies are written, or whole ones and then memory is out."""
     data = b"row 2 12\ncrystal 2 10\npartitions 16\ncrystal 3 12\n"
     whole = run(program, input=data).stdout
     ends = replies_of(program, data)
