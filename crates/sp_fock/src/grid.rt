@@ -155,8 +155,8 @@ fn sparse_rows(
     Ok(sparse)
 }
 
-// The cells of a row that aren't 0.
-fn sparse_row(alloc: Global, row: Vec<Laurent>) -> Result<Vec<(usize, Laurent)>, AllocError>
+/// The cells of a row that aren't 0, each behind its place.
+pub fn sparse_row(alloc: Global, row: Vec<Laurent>) -> Result<Vec<(usize, Laurent)>, AllocError>
     ensures value { IfOk result (λ cells. spread (length row.items) cells.items ≡ row.items) }
     ensures sparse { IfOk result (λ cells. IsSparse (length row.items) cells.items) }
 {
@@ -167,8 +167,8 @@ fn sparse_row(alloc: Global, row: Vec<Laurent>) -> Result<Vec<(usize, Laurent)>,
     Ok(cells)
 }
 
-// Appends a cell, unless it is 0.
-fn push_cell(
+/// Appends a cell behind its place, unless it is 0.
+pub fn push_cell(
     cells: &mut Vec<(usize, Laurent)>,
     place: usize,
     cell: Laurent,

@@ -16,7 +16,7 @@ mod totals;
 mod vector;
 
 pub use fault::FockFault;
-pub use grid::Grid;
+pub use grid::{Grid, push_cell, sparse_row};
 pub use row::Row;
 pub use tally::Tally;
 pub use terms::Terms;
