@@ -13,6 +13,7 @@ use Rattle.sp_lang.specs.Reading.{or_fault, said_behind, said, reading}
 use Rattle.sp_lang.specs.Values.{given_command, read_all, words_of, first_failing}
 use Rattle.sp_lang.specs.declared.given.Given.{Given}
 use Rattle.sp_lang.specs.declared.TheConstants.{LINE_LIMIT}
+use Rattle.sp_lang.specs.declared.convention.Convention.{Convention}
 use Rattle.sp_lang.specs.declared.command.Command.{Command}
 use Rattle.sp_lang.specs.declared.command.Command.TheVariants.{Nothing}
 use Rattle.sp_lang.specs.declared.fault.LineFault.{LineFault}
@@ -28,11 +29,12 @@ use Rattle.sp_lang.proofs.Fields.{exact, fields}
 -- ---- behind the first word
 
 -- Another number of words is a fault.
-pub miscounted : (verb : Verb) (ws : List (List ℕ)) (places : List Place) → places ≡ places_of verb →
-    length ws ≢ length places → Err WordCount ≡ or_fault (command_of verb ws) (first_fault (places_of verb) ws)
-miscounted verb ws places of_verb other =
+pub miscounted : (convention : Convention) (verb : Verb) (ws : List (List ℕ)) (places : List Place) →
+    places ≡ places_of verb → length ws ≢ length places →
+    Err WordCount ≡ or_fault (command_of verb ws) (first_fault convention (places_of verb) ws)
+miscounted convention verb ws places of_verb other =
     ap (or_fault (command_of verb ws))
-    (other_count (places_of verb) ws (λ e. other (e ∙ sym (ap length of_verb))))
+    (other_count convention (places_of verb) ws (λ e. other (e ∙ sym (ap length of_verb))))
 
 -- As many words as there are places are kept in order, and none is lost.
 pub record Read (verb : Verb) (ws : List (List ℕ)) (given : List Given) : Type 0 where
@@ -55,78 +57,83 @@ all_read verb ws places items given of_verb read is =
     }
 
 -- The tests find the first fault of the words that were read.
-pub tested : (verb : Verb) (given : List Given) → length given ≡ length (places_of verb) →
+pub tested : (convention : Convention) (verb : Verb) (given : List Given) → length given ≡ length (places_of verb) →
     given ≡ read_all (places_of verb) (words_of given) →
-    first_failing given ≡ first_fault (places_of verb) (words_of given)
-tested verb given count own =
-    ap first_failing own
-    ∙ same_count verb (words_of given) (length-map given (λ one. one.word) ∙ count)
+    first_failing convention given ≡ first_fault convention (places_of verb) (words_of given)
+tested convention verb given count own =
+    ap (first_failing convention) own
+    ∙ same_count convention verb (words_of given) (length-map given (λ one. one.word) ∙ count)
 
 -- Words without a fault say their command.
-pub answered : (verb : Verb) (ws : List (List ℕ)) (command : Command) → None ≡ first_fault (places_of verb) ws →
-    command ≡ given_command verb (read_all (places_of verb) ws) →
-    Ok command ≡ or_fault (command_of verb ws) (first_fault (places_of verb) ws)
-answered verb ws command none is =
-    ap Ok (is ∙ exact verb ws (faultless (places_of verb) ws (sym none)))
+pub answered : (convention : Convention) (verb : Verb) (ws : List (List ℕ)) (command : Command) →
+    None ≡ first_fault convention (places_of verb) ws → command ≡ given_command verb (read_all (places_of verb) ws) →
+    Ok command ≡ or_fault (command_of verb ws) (first_fault convention (places_of verb) ws)
+answered convention verb ws command none is =
+    ap Ok (is ∙ exact verb ws (faultless convention (places_of verb) ws (sym none)))
     ∙ ap (or_fault (command_of verb ws)) none
 
 -- Only a quotient wants memory.
-pub wanted : (verb : Verb) (ws : List (List ℕ)) → None ≡ first_fault (places_of verb) ws → verb ≡ Combine →
-    WantsMemory (or_fault (command_of verb ws) (first_fault (places_of verb) ws))
+pub wanted : (convention : Convention) (verb : Verb) (ws : List (List ℕ)) →
+    None ≡ first_fault convention (places_of verb) ws → verb ≡ Combine →
+    WantsMemory (or_fault (command_of verb ws) (first_fault convention (places_of verb) ws))
 unfolding command_of
-wanted verb ws none is =
+wanted convention verb ws none is =
     subst (λ o. WantsMemory (or_fault (command_of verb ws) o)) none
     (subst (λ v. WantsMemory (Ok (command_of v ws))) (sym is) tt)
 
 -- ---- the fields of what was read
 
-behind : (verb : Option Verb) (ws : List (List ℕ)) → IfOk (said_behind verb ws) IsCommand
-behind None ws = tt
-behind (Some verb) ws = by_fault (first_fault (places_of verb) ws) refl
+behind : (convention : Convention) (verb : Option Verb) (ws : List (List ℕ)) →
+    IfOk (said_behind convention verb ws) (IsCommand convention)
+behind convention None ws = tt
+behind convention (Some verb) ws = by_fault (first_fault convention (places_of verb) ws) refl
   where
-    by_fault : (o : Option LineFault) → first_fault (places_of verb) ws ≡ o →
-        IfOk (or_fault (command_of verb ws) o) IsCommand
-    by_fault None none = fields verb ws (faultless (places_of verb) ws none)
+    by_fault : (o : Option LineFault) → first_fault convention (places_of verb) ws ≡ o →
+        IfOk (or_fault (command_of verb ws) o) (IsCommand convention)
+    by_fault None none = fields verb ws (faultless convention (places_of verb) ws none)
     by_fault (Some fault) is = tt
 
-said_command : (ws : List (List ℕ)) → IfOk (said ws) IsCommand
-said_command [] = tt
-said_command (first ∷ rest) =
-    cond_both (starts_with eqb first (codes "#")) (Ok Nothing) (said_behind (verb_of first) rest)
-    (λ (r : Result Command LineFault). IfOk r IsCommand) (λ e. tt) (λ e. behind (verb_of first) rest)
+said_command : (convention : Convention) (ws : List (List ℕ)) → IfOk (said convention ws) (IsCommand convention)
+said_command convention [] = tt
+said_command convention (first ∷ rest) =
+    cond_both (starts_with eqb first (codes "#")) (Ok Nothing) (said_behind convention (verb_of first) rest)
+    (λ (r : Result Command LineFault). IfOk r (IsCommand convention)) (λ e. tt)
+    (λ e. behind convention (verb_of first) rest)
 
 -- ---- the length and the bytes
 
 -- A line past the limit is refused for that.
-pub long_line : (line : List ℕ) → LINE_LIMIT < length line → Err LongLine ≡ reading line
+pub long_line : (convention : Convention) (line : List ℕ) → LINE_LIMIT < length line →
+    Err LongLine ≡ reading convention line
 unfolding reading
-long_line line long =
+long_line convention line long =
     sym (cond-true (nat_lt LINE_LIMIT (length line)) _ _ (lt-ltb LINE_LIMIT (length line) long))
 
-short_line : (line : List ℕ) → length line ≤ LINE_LIMIT →
-    reading line ≡ cond (not (list_all is_allowed line)) (Err BadByte) (said (words line))
+short_line : (convention : Convention) (line : List ℕ) → length line ≤ LINE_LIMIT →
+    reading convention line ≡ cond (not (list_all is_allowed line)) (Err BadByte) (said convention (words line))
 unfolding reading
-short_line line short =
+short_line convention line short =
     cond-false (nat_lt LINE_LIMIT (length line)) _ _ (le-ltb LINE_LIMIT (length line) short)
 
 -- A line within the limit is refused for a byte that is not allowed.
-pub bad_byte : (line : List ℕ) → length line ≤ LINE_LIMIT → list_all is_allowed line ≡ false →
-    Err BadByte ≡ reading line
-bad_byte line short other =
-    sym (short_line line short ∙ cond-true (not (list_all is_allowed line)) _ _ (ap not other))
+pub bad_byte : (convention : Convention) (line : List ℕ) → length line ≤ LINE_LIMIT →
+    list_all is_allowed line ≡ false → Err BadByte ≡ reading convention line
+bad_byte convention line short other =
+    sym (short_line convention line short ∙ cond-true (not (list_all is_allowed line)) _ _ (ap not other))
 
 -- Any other line says what its words say.
-pub plain_line : (line : List ℕ) → length line ≤ LINE_LIMIT → list_all is_allowed line ≡ true →
-    said (words line) ≡ reading line
-plain_line line short all =
-    sym (short_line line short ∙ cond-false (not (list_all is_allowed line)) _ _ (ap not all))
+pub plain_line : (convention : Convention) (line : List ℕ) → length line ≤ LINE_LIMIT →
+    list_all is_allowed line ≡ true → said convention (words line) ≡ reading convention line
+plain_line convention line short all =
+    sym (short_line convention line short ∙ cond-false (not (list_all is_allowed line)) _ _ (ap not all))
 
 -- ---- what was read
 
 -- What the words say is what the line says, memory apart.
-pub read_command : (line : List ℕ) (r : Result Command LineFault) → (r ≢ Err Memory → r ≡ said (words line)) →
-    IfOk r IsCommand
-read_command line (Err fault) reads = tt
-read_command line (Ok command) reads =
-    let is : Ok command ≡ said (words line) = reads (λ e. cc) in
-    subst (λ (r : Result Command LineFault). IfOk r IsCommand) (sym is) (said_command (words line))
+pub read_command : (convention : Convention) (line : List ℕ) (r : Result Command LineFault) →
+    (r ≢ Err Memory → r ≡ said convention (words line)) → IfOk r (IsCommand convention)
+read_command convention line (Err fault) reads = tt
+read_command convention line (Ok command) reads =
+    let is : Ok command ≡ said convention (words line) = reads (λ e. cc) in
+    subst (λ (r : Result Command LineFault). IfOk r (IsCommand convention)) (sym is)
+    (said_command convention (words line))

@@ -7,14 +7,16 @@ use Rattle.sp_partition.specs.declared.TheConstants.{CAPACITY}
 use Rattle.sp_partition.specs.declared.partition.NotPartition.TheVariants.{PastCapacity}
 use Rattle.std.specs.Option.{option_map}
 use Rattle.sp_partition.specs.Reading.{number_of, partition_of, parsed}
+use Rattle.sp_lang.specs.Convention.{convention_of, convention_said}
 use Rattle.sp_lang.specs.Commands.{places_of, number, word_at, weight}
 use Rattle.sp_lang.specs.Values.{number_read, partition_read, number_said, byte_said, partition_said, fitting}
-use Rattle.sp_lang.specs.Values.{value_of, value_at, read, read_all, words_of}
+use Rattle.sp_lang.specs.Values.{value_of, value_at, read, read_all, words_of, convention_read}
 use Rattle.sp_lang.specs.declared.given.Given.{Given}
 use Rattle.sp_lang.specs.declared.value.Value.TheVariants.{Number, Partition}
 use Rattle.sp_lang.specs.declared.verb.Place.{Place}
-use Rattle.sp_lang.specs.declared.verb.Place.TheVariants.{Weight}
+use Rattle.sp_lang.specs.declared.verb.Place.TheVariants.{Weight, Convention}
 use Rattle.sp_lang.specs.declared.verb.Verb.TheVariants.{Block}
+use Rattle.sp_lang.specs.declared.verb.Verb.TheVariants as verb
 
 -- The first k words are read, and these are left.
 pub record Reads (places : List Place) (ws : List (List ℕ)) (k : ℕ) (given : List Given) (rest : List (List ℕ))
@@ -93,3 +95,14 @@ weight_given (a ∷ b ∷ []) is = refl
 weight_given (a ∷ b ∷ c ∷ []) is =
     let third : c ≡ read Weight c.word = cc in ap (λ one. number_said one.value) third ∙ weight_said c.word
 weight_given (a ∷ b ∷ c ∷ d ∷ ds) is = absurd (cc)
+
+-- ---- conventions
+
+-- The convention is that of the first word.
+pub convention_given : (given : List Given) → given ≡ read_all (places_of verb.Convention) (words_of given) →
+    convention_read (value_at given 0) ≡ convention_said (word_at (words_of given) 0)
+unfolding convention_of
+convention_given [] is = refl
+convention_given (a ∷ []) is =
+    let first : a ≡ read Convention a.word = cc in ap (λ one. convention_read one.value) first
+convention_given (a ∷ b ∷ bs) is = absurd (cc)

@@ -8,20 +8,24 @@ use Rattle.std.specs.Option.{option_map}
 use Rattle.sp_defs.specs.Partition.{degree}
 use Rattle.sp_lang.specs.Commands.{number, partition, word_at}
 use Rattle.sp_lang.specs.Faults.{is_no_number, is_no_partition, is_no_e, passes_limit}
-use Rattle.sp_lang.specs.Faults.{is_of_other_degree, is_no_residue, is_irregular, any_word, faults, first_fault}
+use Rattle.sp_lang.specs.Faults.{passes_together, is_of_other_degree, is_no_residue, is_irregular, is_no_label}
+use Rattle.sp_lang.specs.Faults.{any_word, faults, first_fault}
+use Rattle.sp_lang.specs.declared.convention.Convention.{Convention}
 use Rattle.sp_lang.specs.declared.fault.LineFault.{LineFault}
 use Rattle.sp_lang.specs.declared.verb.Place.{Place}
 
 -- What is known of the words of a line that has no fault.
-pub record Faultless (places : List Place) (ws : List (List ℕ)) : Type 0 where
+pub record Faultless (convention : Convention) (places : List Place) (ws : List (List ℕ)) : Type 0 where
   pub count : length ws ≡ length places
   pub numbers : any_word is_no_number places ws ≡ false
   pub partitions : any_word is_no_partition places ws ≡ false
   pub e_range : any_word is_no_e places ws ≡ false
   pub limit : any_word (passes_limit (number (word_at ws 2))) places ws ≡ false
+  pub together : any_word (passes_together (degree (partition (word_at ws 0)))) places ws ≡ false
   pub peers : any_word (is_of_other_degree (degree (partition (word_at ws 0)))) places ws ≡ false
   pub residues : any_word (is_no_residue (number (word_at ws 0))) places ws ≡ false
   pub labels : any_word (is_irregular (number (word_at ws 0))) places ws ≡ false
+  pub headings : any_word (is_no_label convention (number (word_at ws 0))) places ws ≡ false
 
 -- A search that finds nothing has passed over all.
 none_there : (fs : List (LineFault × Bool)) →
@@ -39,19 +43,22 @@ none_there (f ∷ fs) h = by_test f.1 refl (none_there fs) h
     by_test false is rest h = (is, rest h)
 
 -- Where no fault is found, no word is wrong.
-pub faultless : (places : List Place) (ws : List (List ℕ)) → first_fault places ws ≡ None → Faultless places ws
+pub faultless : (convention : Convention) (places : List Place) (ws : List (List ℕ)) →
+    first_fault convention places ws ≡ None → Faultless convention places ws
 unfolding first_fault
-faultless places ws h =
-    let none = none_there (faults places ws) h in
+faultless convention places ws h =
+    let none = none_there (faults convention places ws) h in
     record {
       count = eqb-true (length ws) (length places) (not-false (eqb (length ws) (length places)) none.0);
       numbers = none.1.0;
       partitions = none.1.1.0;
       e_range = none.1.1.1.0;
       limit = none.1.1.1.1.0;
-      peers = none.1.1.1.1.1.0;
-      residues = none.1.1.1.1.1.1.0;
-      labels = none.1.1.1.1.1.1.1.0;
+      together = none.1.1.1.1.1.0;
+      peers = none.1.1.1.1.1.1.0;
+      residues = none.1.1.1.1.1.1.1.0;
+      labels = none.1.1.1.1.1.1.1.1.0;
+      headings = none.1.1.1.1.1.1.1.1.1.0;
     }
 
 -- What is wrong nowhere isn't wrong at place k.

@@ -1,25 +1,31 @@
 -- The fields of a command whose words have no fault.
 use Rattle.std.proofs.Common.{◌≡◌, ℕ, ◌≤◌, List, refl, sym, ◌∙◌, ap, ap₂, arith, slice_get}
 use Rattle.std.specs.Prelude.{Some}
+use Rattle.sp_lang.specs.Convention.{convention_said}
 use Rattle.sp_lang.specs.Commands.{places_of, command_of, number, partition, weight, word_at}
-use Rattle.sp_lang.specs.Given.{IsCommand, IsWithE, IsGivenLabel}
+use Rattle.sp_lang.specs.Given.{IsCommand, IsWithE, IsGivenLabel, IsHeading}
 use Rattle.sp_lang.specs.Values.{number_read, partition_read, value_of, value_at, byte_said, partition_said}
 use Rattle.sp_lang.specs.Values.{fitting, all_fitting, read_all, words_of, given_command}
 use Rattle.sp_lang.specs.declared.command.Command.TheVariants as command
+use Rattle.sp_lang.specs.declared.convention.Convention.{Convention}
 use Rattle.sp_lang.specs.declared.verb.Place.{Place}
-use Rattle.sp_lang.specs.declared.verb.Place.TheVariants.{E, Residue, Count, Degree, Partition, Peer, Grown, Label}
+use Rattle.sp_lang.specs.declared.verb.Place.TheVariants.{E, Residue, Count, Degree, Partition, Peer, Grown, Factor}
+use Rattle.sp_lang.specs.declared.verb.Place.TheVariants.{Label, Heading}
 use Rattle.sp_lang.specs.declared.verb.Verb.{Verb}
 use Rattle.sp_lang.specs.declared.verb.Verb.TheVariants.{Partitions, Regular, Conjugate, Dominates, Diagram, Hooks}
 use Rattle.sp_lang.specs.declared.verb.Verb.TheVariants.{Content, Core, Combine, Abacus, Good, Path, Mullineux}
 use Rattle.sp_lang.specs.declared.verb.Verb.TheVariants.{Induce, Ladders, Ladder, Row, Crystal, Decomposition}
 use Rattle.sp_lang.specs.declared.verb.Verb.TheVariants.{Block, Painter, Jantzen, Schaper, Dim, Dims}
-use Rattle.sp_lang.specs.declared.verb.Verb.TheVariants.{Certificate, Check}
+use Rattle.sp_lang.specs.declared.verb.Verb.TheVariants.{Certificate, Check, Restrict, Commutator, Branch, Product}
+use Rattle.sp_lang.specs.declared.verb.Verb.TheVariants.{Fillings, Blocks, Inverse, Simple, Cartan}
+use Rattle.sp_lang.specs.declared.verb.Verb.TheVariants as verb
 use Rattle.sp_lang.proofs.Faultless.{Faultless}
 use Rattle.sp_lang.proofs.ByPlace.{value_there, words_of-read_all, byte_exact, partition_fitting}
 use Rattle.sp_lang.proofs.Right.{IsGiven-fits, e_at, residue_at, degree_at, partition_at, peer_at, grown_at}
-use Rattle.sp_lang.proofs.Right.{label_at, quotient_at, weight-small}
+use Rattle.sp_lang.proofs.Right.{factor_at, label_at, heading_at, quotient_at, weight-small}
+use Rattle.sp_lang.proofs.Labels.{label-given}
 
-module _ (places : List Place) (ws : List (List ℕ)) (f : Faultless places ws) where
+module _ {convention : Convention} (places : List Place) (ws : List (List ℕ)) (f : Faultless convention places ws) where
   exact_number : (k : ℕ) (place : Place) → slice_get places k ≡ Some place →
       value_of place (word_at ws k) ≡ number_read (word_at ws k) → number (word_at ws k) ≤ 255 →
       byte_said (value_at (read_all places ws) k) ≡ number (word_at ws k)
@@ -49,6 +55,23 @@ module _ (places : List Place) (ws : List (List ℕ)) (f : Faultless places ws) 
       partition_said (value_at (read_all places ws) k) ≡ partition (word_at ws k)
   exact_label k at = exact_parts k Label at refl (IsGiven-fits (word_at ws k) (label_at places ws f k at).0)
 
+  exact_factor : (k : ℕ) → slice_get places k ≡ Some Factor →
+      partition_said (value_at (read_all places ws) k) ≡ partition (word_at ws k)
+  exact_factor k at =
+      exact_parts k Factor at refl (IsGiven-fits (word_at ws k) (factor_at places ws f k at).0)
+
+  exact_heading : (k : ℕ) → slice_get places k ≡ Some Heading →
+      partition_said (value_at (read_all places ws) k) ≡ partition (word_at ws k)
+  exact_heading k at =
+      exact_parts k Heading at refl (IsGiven-fits (word_at ws k) (heading_at places ws f k at).0)
+
+  exact_residue : (k : ℕ) → slice_get places 0 ≡ Some E → slice_get places k ≡ Some Residue →
+      byte_said (value_at (read_all places ws) k) ≡ number (word_at ws k)
+  exact_residue k at_e at =
+      exact_number k Residue at refl
+      (let e = e_at places ws f 0 at_e in
+      omega (arith, e.high, residue_at places ws f k at))
+
   exact_word : (k : ℕ) → word_at (words_of (read_all places ws)) k ≡ word_at ws k
   exact_word k = ap (λ words. word_at words k) (words_of-read_all places ws f.count)
 
@@ -56,14 +79,26 @@ module _ (places : List Place) (ws : List (List ℕ)) (f : Faultless places ws) 
       IsWithE (number (word_at ws 0)) (partition (word_at ws 1))
   with_e at_e at_p = (e_at places ws f 0 at_e, partition_at places ws f 1 at_p)
 
-  label : slice_get places 0 ≡ Some E → slice_get places 1 ≡ Some Label →
-      IsGivenLabel (number (word_at ws 0)) (partition (word_at ws 1))
-  label at_e at_p =
-      let mu = label_at places ws f 1 at_p in
+  label : (k : ℕ) → slice_get places 0 ≡ Some E → slice_get places k ≡ Some Label →
+      IsGivenLabel (number (word_at ws 0)) (partition (word_at ws k))
+  label k at_e at_p =
+      let mu = label_at places ws f k at_p in
       record { e_range = e_at places ws f 0 at_e; given = mu.0; regular = mu.1 }
 
+  heading : slice_get places 0 ≡ Some E → slice_get places 1 ≡ Some Heading →
+      IsHeading convention (number (word_at ws 0)) (partition (word_at ws 1))
+  heading at_e at_p =
+      let mu = heading_at places ws f 1 at_p in (
+        record {
+          e_range = e_at places ws f 0 at_e;
+          given = label-given convention (partition (word_at ws 1)) mu.0;
+          regular = mu.1;
+        },
+        mu.0,
+      )
+
 -- Words without a fault are read exactly.
-pub exact : (verb : Verb) (ws : List (List ℕ)) → Faultless (places_of verb) ws →
+pub exact : {convention : Convention} (verb : Verb) (ws : List (List ℕ)) → Faultless convention (places_of verb) ws →
     given_command verb (read_all (places_of verb) ws) ≡ command_of verb ws
 unfolding command_of
 exact Partitions ws f = ap command.Partitions (exact_degree _ ws f 0 refl)
@@ -85,13 +120,12 @@ exact Path ws f = ap₂ command.Path (exact_e _ ws f refl) (exact_label _ ws f 1
 exact Mullineux ws f = ap₂ command.Mullineux (exact_e _ ws f refl) (exact_label _ ws f 1 refl)
 exact Induce ws f =
     let grown = grown_at _ ws f 3 refl in
-    let i = exact_number _ ws f 1 Residue refl refl
-    (let e = e_at _ ws f 0 refl in omega (arith, e.high, residue_at _ ws f 1 refl)) in
+    let i = exact_residue _ ws f 1 refl refl in
     let m = exact_number _ ws f 2 Count refl refl (omega (arith, grown.1)) in
     cc (exact_e _ ws f refl, i, m, exact_parts _ ws f 3 Grown refl refl grown.2)
 exact Ladders ws f = ap₂ command.Ladders (exact_e _ ws f refl) (exact_label _ ws f 1 refl)
-exact Ladder ws f = ap₂ command.Ladder (exact_e _ ws f refl) (exact_label _ ws f 1 refl)
-exact Row ws f = ap₂ command.Row (exact_e _ ws f refl) (exact_label _ ws f 1 refl)
+exact Ladder ws f = ap₂ command.Ladder (exact_e _ ws f refl) (exact_heading _ ws f 1 refl)
+exact Row ws f = ap₂ command.Row (exact_e _ ws f refl) (exact_heading _ ws f 1 refl)
 exact Crystal ws f = ap₂ command.Crystal (exact_e _ ws f refl) (exact_degree _ ws f 1 refl)
 exact Decomposition ws f = ap₂ command.Decomposition (exact_e _ ws f refl) (exact_degree _ ws f 1 refl)
 exact Block ws f =
@@ -104,9 +138,26 @@ exact Dim ws f = ap command.Dim (exact_partition _ ws f 0 refl)
 exact Dims ws f = ap₂ command.Dims (exact_e _ ws f refl) (exact_degree _ ws f 1 refl)
 exact Certificate ws f = ap₂ command.Certificate (exact_e _ ws f refl) (exact_degree _ ws f 1 refl)
 exact Check ws f = refl
+exact verb.Convention ws f =
+    ap (λ word. command.Convention (convention_said word)) (exact_word _ ws f 0)
+exact Restrict ws f =
+    cc (exact_e _ ws f refl, exact_residue _ ws f 1 refl refl, exact_partition _ ws f 2 refl)
+exact Commutator ws f =
+    cc (exact_e _ ws f refl, exact_residue _ ws f 1 refl refl, exact_residue _ ws f 2 refl refl,
+    exact_partition _ ws f 3 refl)
+exact Branch ws f =
+    cc (exact_e _ ws f refl, exact_residue _ ws f 1 refl refl, exact_label _ ws f 2 refl)
+exact Product ws f = ap₂ command.Product (exact_partition _ ws f 0 refl) (exact_factor _ ws f 1 refl)
+exact Fillings ws f =
+    cc (exact_partition _ ws f 0 refl, exact_factor _ ws f 1 refl, exact_partition _ ws f 2 refl)
+exact Blocks ws f = ap₂ command.Blocks (exact_e _ ws f refl) (exact_degree _ ws f 1 refl)
+exact Inverse ws f = ap₂ command.Inverse (exact_e _ ws f refl) (exact_degree _ ws f 1 refl)
+exact Simple ws f = ap₂ command.Simple (exact_e _ ws f refl) (exact_label _ ws f 1 refl)
+exact Cartan ws f = ap₂ command.Cartan (exact_e _ ws f refl) (exact_degree _ ws f 1 refl)
 
 -- The fields of a command that was read are as its places ask.
-pub fields : (verb : Verb) (ws : List (List ℕ)) → Faultless (places_of verb) ws → IsCommand (command_of verb ws)
+pub fields : {convention : Convention} (verb : Verb) (ws : List (List ℕ)) → Faultless convention (places_of verb) ws →
+    IsCommand convention (command_of verb ws)
 unfolding command_of
 fields Partitions ws f = degree_at _ ws f 0 refl
 fields Regular ws f = (e_at _ ws f 0 refl, degree_at _ ws f 1 refl)
@@ -120,8 +171,8 @@ fields Core ws f = with_e _ ws f refl refl
 fields Combine ws f = (e_at _ ws f 0 refl, partition_at _ ws f 1 refl, (quotient_at _ ws f 2 refl).0)
 fields Abacus ws f = with_e _ ws f refl refl
 fields Good ws f = with_e _ ws f refl refl
-fields Path ws f = label _ ws f refl refl
-fields Mullineux ws f = label _ ws f refl refl
+fields Path ws f = label _ ws f 1 refl refl
+fields Mullineux ws f = label _ ws f 1 refl refl
 fields Induce ws f =
     let grown = grown_at _ ws f 3 refl in
     record {
@@ -130,9 +181,9 @@ fields Induce ws f =
       partition = grown.0;
       room = grown.1;
     }
-fields Ladders ws f = label _ ws f refl refl
-fields Ladder ws f = label _ ws f refl refl
-fields Row ws f = label _ ws f refl refl
+fields Ladders ws f = label _ ws f 1 refl refl
+fields Ladder ws f = heading _ ws f refl refl
+fields Row ws f = heading _ ws f refl refl
 fields Crystal ws f = (e_at _ ws f 0 refl, degree_at _ ws f 1 refl)
 fields Decomposition ws f = (e_at _ ws f 0 refl, degree_at _ ws f 1 refl)
 fields Block ws f = (e_at _ ws f 0 refl, partition_at _ ws f 1 refl, weight-small (word_at ws 2))
@@ -143,3 +194,17 @@ fields Dim ws f = partition_at _ ws f 0 refl
 fields Dims ws f = (e_at _ ws f 0 refl, degree_at _ ws f 1 refl)
 fields Certificate ws f = (e_at _ ws f 0 refl, degree_at _ ws f 1 refl)
 fields Check ws f = tt
+fields verb.Convention ws f = tt
+fields Restrict ws f = (e_at _ ws f 0 refl, residue_at _ ws f 1 refl, partition_at _ ws f 2 refl)
+fields Commutator ws f =
+    (e_at _ ws f 0 refl, residue_at _ ws f 1 refl, residue_at _ ws f 2 refl, partition_at _ ws f 3 refl)
+fields Branch ws f = (residue_at _ ws f 1 refl, label _ ws f 2 refl refl)
+fields Product ws f =
+    let factor = factor_at _ ws f 1 refl in (partition_at _ ws f 0 refl, factor.0, factor.1)
+fields Fillings ws f =
+    let factor = factor_at _ ws f 1 refl in
+    (partition_at _ ws f 0 refl, factor.0, factor.1, partition_at _ ws f 2 refl)
+fields Blocks ws f = (e_at _ ws f 0 refl, degree_at _ ws f 1 refl)
+fields Inverse ws f = (e_at _ ws f 0 refl, degree_at _ ws f 1 refl)
+fields Simple ws f = label _ ws f 1 refl refl
+fields Cartan ws f = (e_at _ ws f 0 refl, degree_at _ ws f 1 refl)

@@ -3,6 +3,7 @@ pub mod Digits
 pub mod ByPlace
 pub mod Faultless
 pub mod Right
+pub mod Labels
 pub mod Fields
 pub mod Order
 pub mod Answered

@@ -12,9 +12,12 @@ use Rattle.sp_partition.specs.Reading.{number_of, partition_of, parsed}
 use Rattle.sp_partition.specs.declared.TheConstants.{CAPACITY, DEGREE_LIMIT}
 use Rattle.sp_partition.specs.declared.partition.NotPartition.{NotPartition}
 use Rattle.sp_partition.specs.declared.partition.NotPartition.TheVariants.{PastCapacity}
+use Rattle.sp_lang.specs.Convention.{label_in}
 use Rattle.sp_lang.specs.Commands.{number, partition, places_of, word_at}
 use Rattle.sp_lang.specs.Faults.{says, is_e, is_no_number, is_no_partition, is_no_e, passes_limit, any_word}
-use Rattle.sp_lang.specs.Faults.{is_of_other_degree, is_no_residue, is_irregular, first_fault}
+use Rattle.sp_lang.specs.Faults.{passes_together, is_of_other_degree, is_no_residue, is_irregular, is_no_label}
+use Rattle.sp_lang.specs.Faults.{is_no_convention, first_fault}
+use Rattle.sp_lang.specs.declared.convention.Convention.{Convention}
 use Rattle.sp_lang.specs.Values as value
 use Rattle.sp_lang.specs.Values.{any_given, fails, value_of, value_at, read_all, byte_said, partition_said}
 use Rattle.sp_lang.specs.Values.{first_failing, exceeds}
@@ -25,11 +28,12 @@ use Rattle.sp_lang.specs.declared.test.Test.TheVariants as test
 use Rattle.sp_lang.specs.declared.value.Value.{Value}
 use Rattle.sp_lang.specs.declared.value.Value.TheVariants as said
 use Rattle.sp_lang.specs.declared.verb.Place.{Place}
-use Rattle.sp_lang.specs.declared.verb.Place.TheVariants.{E, Residue, Count, Degree, Partition, Peer, Grown, Label}
-use Rattle.sp_lang.specs.declared.verb.Place.TheVariants.{Weight}
+use Rattle.sp_lang.specs.declared.verb.Place.TheVariants.{E, Residue, Count, Degree, Partition, Peer, Grown, Factor}
+use Rattle.sp_lang.specs.declared.verb.Place.TheVariants.{Label, Heading, Weight}
 use Rattle.sp_lang.specs.declared.verb.Verb.{Verb}
 use Rattle.sp_lang.specs.declared.verb.Verb.TheVariants.{Check, Conjugate, Dim, Dominates, Hooks, Induce, Painter}
-use Rattle.sp_lang.specs.declared.verb.Verb.TheVariants.{Partitions}
+use Rattle.sp_lang.specs.declared.verb.Verb.TheVariants.{Partitions, Product, Fillings}
+use Rattle.sp_lang.specs.declared.verb.Verb.TheVariants as verb
 use Rattle.sp_lang.proofs.ByPlace.{value_there, byte_read, byte_exact, partition_fitting}
 use Rattle.sp_lang.proofs.Right.{IsGiven-fits, e_of, given_of}
 
@@ -140,7 +144,9 @@ shapeless_same place word = by_place place
     by_place Partition = by_parts (partition_of word)
     by_place Peer = by_parts (partition_of word)
     by_place Grown = by_parts (partition_of word)
+    by_place Factor = by_parts (partition_of word)
     by_place Label = by_parts (partition_of word)
+    by_place Heading = by_parts (partition_of word)
     by_place other = refl
 
 -- A partition past the capacity is past the limit.
@@ -173,8 +179,15 @@ limit_same m Degree word = by_number (number_of word)
 limit_same m Partition word = past_same 0 (partition_of word)
 limit_same m Peer word = past_same 0 (partition_of word)
 limit_same m Grown word = past_same m (partition_of word)
+limit_same m Factor word = past_same 0 (partition_of word)
 limit_same m Label word = past_same 0 (partition_of word)
+limit_same m Heading word = past_same 0 (partition_of word)
 limit_same m other word = refl
+
+factor_same : (n : ℕ) (place : Place) (word : List ℕ) →
+    value.is_large_together n place (value_of place word) ≡ passes_together n place word
+factor_same n Factor word = past_same n (partition_of word)
+factor_same n other word = refl
 
 -- A partition within the limit was read.
 read_within : (o : Option (List ℕ)) → says (λ p. nat_lt DEGREE_LIMIT (degree p + 0)) o ≡ false →
@@ -202,40 +215,68 @@ label_same m e low Label word within =
     (λ p few. ap (λ t. t && not (is_regular e p)) (le-leb 2 e low))
 label_same m e low other word within = refl
 
+heading_same : (convention : Convention) (m e : ℕ) → 2 ≤ e → (place : Place) (word : List ℕ) →
+    passes_limit m place word ≡ false →
+    value.is_bad_heading convention e place (value_of place word) ≡ is_no_label convention e place word
+heading_same convention m e low Heading word within =
+    read_within (partition_of word) within (λ r. value.is_bad_heading convention e Heading (said.Partition r))
+    (λ p. not (is_regular e (label_in convention p))) (λ e. refl)
+    (λ p few. ap (λ t. t && not (is_regular e (label_in convention p))) (le-leb 2 e low))
+heading_same convention m e low other word within = refl
+
+-- ---- conventions
+
+convention_same : (place : Place) (word : List ℕ) →
+    value.is_bad_convention (value_of place word) ≡ is_no_convention place word
+convention_same E word = refl
+convention_same other word = refl
+
 -- ---- places that a test doesn't ask about
 
-is_unpeered : Place → Bool
-is_unpeered Peer = false
-is_unpeered other = true
+is_unpaired : Place → Bool
+is_unpaired Peer = false
+is_unpaired Factor = false
+is_unpaired other = true
 
 is_free_of_e : Place → Bool
 is_free_of_e Residue = false
 is_free_of_e Label = false
+is_free_of_e Heading = false
 is_free_of_e other = true
 
 is_ungrown : Place → Bool
 is_ungrown Grown = false
 is_ungrown other = true
 
-unpeered_same : (n k : ℕ) (place : Place) (word : List ℕ) → is_unpeered place ≡ true →
+no_peer_same : (n k : ℕ) (place : Place) (word : List ℕ) → is_unpaired place ≡ true →
     value.is_uneven n place (value_of place word) ≡ is_of_other_degree k place word
-unfolding is_unpeered
-unpeered_same n k Peer word h = absurd (cc)
-unpeered_same n k other word h = refl
+unfolding is_unpaired
+no_peer_same n k Peer word h = absurd (cc)
+no_peer_same n k other word h = refl
+
+no_factor_same : (n k : ℕ) (place : Place) (word : List ℕ) → is_unpaired place ≡ true →
+    value.is_large_together n place (value_of place word) ≡ passes_together k place word
+unfolding is_unpaired
+no_factor_same n k Factor word h = absurd (cc)
+no_factor_same n k other word h = refl
 
 no_residue_same : (d e : ℕ) (place : Place) (word : List ℕ) → is_free_of_e place ≡ true →
     value.is_bad_residue d place (value_of place word) ≡ is_no_residue e place word
 unfolding is_free_of_e
 no_residue_same d e Residue word h = absurd (cc)
-no_residue_same d e Label word h = absurd (cc)
 no_residue_same d e other word h = refl
 
 no_label_same : (d e : ℕ) (place : Place) (word : List ℕ) → is_free_of_e place ≡ true →
     value.is_irregular d place (value_of place word) ≡ is_irregular e place word
 unfolding is_free_of_e
-no_label_same d e Residue word h = absurd (cc)
 no_label_same d e Label word h = absurd (cc)
 no_label_same d e other word h = refl
+
+no_heading_same : (convention : Convention) (d e : ℕ) (place : Place) (word : List ℕ) → is_free_of_e place ≡ true →
+    value.is_bad_heading convention d place (value_of place word) ≡ is_no_label convention e place word
+unfolding is_free_of_e
+no_heading_same convention d e Heading word h = absurd (cc)
+no_heading_same convention d e other word h = refl
 
 ungrown_same : (m k : ℕ) (place : Place) (word : List ℕ) → is_ungrown place ≡ true →
     value.is_large m place (value_of place word) ≡ passes_limit k place word
@@ -244,7 +285,9 @@ ungrown_same m k Grown word h = absurd (cc)
 ungrown_same m k Degree word h = limit_same k Degree word
 ungrown_same m k Partition word h = limit_same k Partition word
 ungrown_same m k Peer word h = limit_same k Peer word
+ungrown_same m k Factor word h = limit_same k Factor word
 ungrown_same m k Label word h = limit_same k Label word
+ungrown_same m k Heading word h = limit_same k Heading word
 ungrown_same m k other word h = refl
 
 -- A count of added nodes that stops at 255 is past the limit where the whole count is.
@@ -266,20 +309,22 @@ added_same m Grown word = past_same (min m 255) (partition_of word) ∙ by_parts
 added_same m Degree word = limit_same m Degree word
 added_same m Partition word = limit_same m Partition word
 added_same m Peer word = limit_same m Peer word
+added_same m Factor word = limit_same m Factor word
 added_same m Label word = limit_same m Label word
+added_same m Heading word = limit_same m Heading word
 added_same m other word = refl
 
 -- ---- the tests that look at the first word, and at the third
 
--- Where a place asks for e, the first word is e, and where one asks for a degree to compare, it is a partition.
+-- Where a place asks for e, the first word is e, and where one asks for the degree of another, it is a partition.
 abbrev Kind : List Place → Type 0
 Kind places =
-    ((slice_get places 0 ≡ Some E) × (list_all is_unpeered places ≡ true))
+    ((slice_get places 0 ≡ Some E) × (list_all is_unpaired places ≡ true))
     ⊎ ((slice_get places 0 ≡ Some Partition) × (list_all is_free_of_e places ≡ true))
-    ⊎ ((list_all is_unpeered places ≡ true) × (list_all is_free_of_e places ≡ true))
+    ⊎ ((list_all is_unpaired places ≡ true) × (list_all is_free_of_e places ≡ true))
 
 kind : (verb : Verb) → Kind (places_of verb)
-unfolding is_unpeered is_free_of_e
+unfolding is_unpaired is_free_of_e
 kind Partitions = inr (inr (refl, refl))
 kind Painter = inr (inr (refl, refl))
 kind Conjugate = inr (inl (refl, refl))
@@ -287,6 +332,9 @@ kind Dominates = inr (inl (refl, refl))
 kind Hooks = inr (inl (refl, refl))
 kind Dim = inr (inl (refl, refl))
 kind Check = inr (inr (refl, refl))
+kind verb.Convention = inr (inr (refl, refl))
+kind Product = inr (inl (refl, refl))
+kind Fillings = inr (inl (refl, refl))
 kind other = inl (refl, refl)
 
 -- Where a place asks for a partition to be grown, the third word is a number of nodes.
@@ -320,13 +368,22 @@ limits_same places ws count (inr none) =
     (ungrown_same (byte_said (value_at (read_all places ws) 2)) (number (word_at ws 2))) places ws none
 
 module _ (places : List Place) (ws : List (List ℕ)) (p : Passed places ws) where
-  none_peers : list_all is_unpeered places ≡ true →
+  none_factors : list_all is_unpaired places ≡ true →
+      any_given (fails (test.Together (degree (partition_said (value_at (read_all places ws) 0)))))
+      (read_all places ws)
+      ≡ any_word (passes_together (degree (partition (word_at ws 0)))) places ws
+  none_factors h =
+      let n = degree (partition_said (value_at (read_all places ws) 0)) in
+      let k = degree (partition (word_at ws 0)) in
+      any_there is_unpaired (value.is_large_together n) (passes_together k) (no_factor_same n k) places ws h
+
+  none_peers : list_all is_unpaired places ≡ true →
       any_given (fails (test.Peer (degree (partition_said (value_at (read_all places ws) 0))))) (read_all places ws)
       ≡ any_word (is_of_other_degree (degree (partition (word_at ws 0)))) places ws
   none_peers h =
       let n = degree (partition_said (value_at (read_all places ws) 0)) in
       let k = degree (partition (word_at ws 0)) in
-      any_there is_unpeered (value.is_uneven n) (is_of_other_degree k) (unpeered_same n k) places ws h
+      any_there is_unpaired (value.is_uneven n) (is_of_other_degree k) (no_peer_same n k) places ws h
 
   none_residues : list_all is_free_of_e places ≡ true →
       any_given (fails (test.Residue (byte_said (value_at (read_all places ws) 0)))) (read_all places ws)
@@ -344,6 +401,15 @@ module _ (places : List Place) (ws : List (List ℕ)) (p : Passed places ws) whe
       let e = number (word_at ws 0) in
       any_there is_free_of_e (value.is_irregular d) (is_irregular e) (no_label_same d e) places ws h
 
+  none_headings : (convention : Convention) → list_all is_free_of_e places ≡ true →
+      any_given (fails (test.Heading convention (byte_said (value_at (read_all places ws) 0)))) (read_all places ws)
+      ≡ any_word (is_no_label convention (number (word_at ws 0))) places ws
+  none_headings convention h =
+      let d = byte_said (value_at (read_all places ws) 0) in
+      let e = number (word_at ws 0) in
+      any_there is_free_of_e (value.is_bad_heading convention d) (is_no_label convention e)
+      (no_heading_same convention d e) places ws h
+
   -- The first value, where it is an e.
   e_said : slice_get places 0 ≡ Some E →
       (byte_said (value_at (read_all places ws) 0) ≡ number (word_at ws 0)) × (2 ≤ number (word_at ws 0))
@@ -356,14 +422,30 @@ module _ (places : List Place) (ws : List (List ℕ)) (p : Passed places ws) whe
         small,
       )
 
+  -- The first value, where it is a partition.
+  first_said : slice_get places 0 ≡ Some Partition →
+      partition_said (value_at (read_all places ws) 0) ≡ partition (word_at ws 0)
+  first_said at =
+      ap partition_said (value_there places ws 0 Partition p.count at) ∙ partition_fitting (word_at ws 0)
+      ∙ IsGiven-fits (word_at ws 0) (given_of places ws 0 p.count p.partitions p.limit at)
+
+  factors_same : Kind places →
+      any_given (fails (test.Together (degree (partition_said (value_at (read_all places ws) 0)))))
+      (read_all places ws)
+      ≡ any_word (passes_together (degree (partition (word_at ws 0)))) places ws
+  factors_same (inr (inl (at, h))) =
+      ap (λ q. any_given (fails (test.Together (degree q))) (read_all places ws)) (first_said at)
+      ∙ any_same (value.is_large_together (degree (partition (word_at ws 0))))
+      (passes_together (degree (partition (word_at ws 0))))
+      (factor_same (degree (partition (word_at ws 0)))) places ws
+  factors_same (inl (at, h)) = none_factors h
+  factors_same (inr (inr (h, free))) = none_factors h
+
   peers_same : Kind places →
       any_given (fails (test.Peer (degree (partition_said (value_at (read_all places ws) 0))))) (read_all places ws)
       ≡ any_word (is_of_other_degree (degree (partition (word_at ws 0)))) places ws
   peers_same (inr (inl (at, h))) =
-      let first = given_of places ws 0 p.count p.partitions p.limit at in
-      ap (λ q. any_given (fails (test.Peer (degree q))) (read_all places ws))
-      (ap partition_said (value_there places ws 0 Partition p.count at) ∙ partition_fitting (word_at ws 0)
-      ∙ IsGiven-fits (word_at ws 0) first)
+      ap (λ q. any_given (fails (test.Peer (degree q))) (read_all places ws)) (first_said at)
       ∙ any_within (number (word_at ws 2)) (value.is_uneven (degree (partition (word_at ws 0))))
       (is_of_other_degree (degree (partition (word_at ws 0))))
       (peer_same (number (word_at ws 2)) (degree (partition (word_at ws 0)))) places ws p.limit
@@ -393,6 +475,18 @@ module _ (places : List Place) (ws : List (List ℕ)) (p : Passed places ws) whe
   labels_same (inr (inl (at, free))) = none_labels free
   labels_same (inr (inr (h, free))) = none_labels free
 
+  headings_same : (convention : Convention) → Kind places →
+      any_given (fails (test.Heading convention (byte_said (value_at (read_all places ws) 0)))) (read_all places ws)
+      ≡ any_word (is_no_label convention (number (word_at ws 0))) places ws
+  headings_same convention (inl (at, h)) =
+      let e = e_said at in
+      ap (λ e. any_given (fails (test.Heading convention e)) (read_all places ws)) e.0
+      ∙ any_within (number (word_at ws 2)) (value.is_bad_heading convention (number (word_at ws 0)))
+      (is_no_label convention (number (word_at ws 0)))
+      (heading_same convention (number (word_at ws 2)) (number (word_at ws 0)) e.1) places ws p.limit
+  headings_same convention (inr (inl (at, free))) = none_headings convention free
+  headings_same convention (inr (inr (h, free))) = none_headings convention free
+
 -- ---- the order
 
 step : (b c : Bool) (test : Test) (fault : LineFault) (x : Option (Test × LineFault)) (y : Option (LineFault × Bool)) →
@@ -416,18 +510,18 @@ failed_count true y h = refl
 failed_count false y h = absurd (cc)
 
 -- Another number of words is the first fault.
-pub other_count : (places : List Place) (ws : List (List ℕ)) → length ws ≢ length places →
-    Some WordCount ≡ first_fault places ws
+pub other_count : (convention : Convention) (places : List Place) (ws : List (List ℕ)) →
+    length ws ≢ length places → Some WordCount ≡ first_fault convention places ws
 unfolding first_fault
-other_count places ws other =
+other_count convention places ws other =
     failed_count (not (eqb (length ws) (length places))) _
     (ap not (ne_eqb (length ws) (length places) other))
 
 -- With as many words as places, the tests find the first fault.
-pub same_count : (verb : Verb) (ws : List (List ℕ)) → length ws ≡ length (places_of verb) →
-    first_failing (read_all (places_of verb) ws) ≡ first_fault (places_of verb) ws
+pub same_count : (convention : Convention) (verb : Verb) (ws : List (List ℕ)) → length ws ≡ length (places_of verb) →
+    first_failing convention (read_all (places_of verb) ws) ≡ first_fault convention (places_of verb) ws
 unfolding first_fault
-same_count verb ws count =
+same_count convention verb ws count =
     let places = places_of verb in
     step (any_word is_no_number places ws) _ _ _ _ _
     (any_same (λ place. value.is_missing) is_no_number missing_same places ws) (λ numbers.
@@ -438,11 +532,18 @@ same_count verb ws count =
     (limits_same places ws count (growth verb)) (λ limit.
     let passed : Passed places ws =
     record { count = count; numbers = numbers; partitions = shapes; e_range = range; limit = limit } in
+    step (any_word (passes_together (degree (partition (word_at ws 0)))) places ws) _ _ _ _ _
+    (factors_same places ws passed (kind verb)) (λ together.
     step (any_word (is_of_other_degree (degree (partition (word_at ws 0)))) places ws) _ _ _ _ _
     (peers_same places ws passed (kind verb)) (λ peers.
     step (any_word (is_no_residue (number (word_at ws 0))) places ws) _ _ _ _ _
     (residues_same places ws passed (kind verb)) (λ residues.
     step (any_word (is_irregular (number (word_at ws 0))) places ws) _ _ _ _ _
-    (labels_same places ws passed (kind verb)) (λ labels. refl)))))))
+    (labels_same places ws passed (kind verb)) (λ labels.
+    step (any_word (is_no_label convention (number (word_at ws 0))) places ws) _ _ _ _ _
+    (headings_same places ws passed convention (kind verb)) (λ headings.
+    step (any_word is_no_convention places ws) _ _ _ _ _
+    (any_same (λ place. value.is_bad_convention) is_no_convention convention_same places ws)
+    (λ conventions. refl))))))))))
     ∙ passed_count (not (eqb (length ws) (length places))) _
     (ap not (eq-eqb (length ws) (length places) count))

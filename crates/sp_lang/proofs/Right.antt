@@ -11,14 +11,17 @@ use Rattle.sp_partition.specs.Reading.{number_of, partition_of}
 use Rattle.sp_partition.specs.declared.TheConstants.{CAPACITY, DEGREE_LIMIT}
 use Rattle.sp_partition.proofs.Falls.{reads_partition}
 use Rattle.sp_lang.specs.Words.{pieces}
+use Rattle.sp_lang.specs.Convention.{label_in}
 use Rattle.sp_lang.specs.Commands.{number, partition, partitions, weight, word_at}
 use Rattle.sp_lang.specs.Faults.{says, is_e, is_past, is_no_number, is_no_partition, is_no_e, passes_limit}
-use Rattle.sp_lang.specs.Faults.{is_of_other_degree, is_no_residue, is_irregular, any_word}
+use Rattle.sp_lang.specs.Faults.{passes_together, is_of_other_degree, is_no_residue, is_irregular, is_no_label}
+use Rattle.sp_lang.specs.Faults.{any_word}
 use Rattle.sp_lang.specs.Given.{IsE, IsGiven}
 use Rattle.sp_lang.specs.Values.{fitting, all_fitting}
+use Rattle.sp_lang.specs.declared.convention.Convention.{Convention}
 use Rattle.sp_lang.specs.declared.verb.Place.{Place}
-use Rattle.sp_lang.specs.declared.verb.Place.TheVariants.{E, Residue, Degree, Partition, Peer, Grown, Label}
-use Rattle.sp_lang.specs.declared.verb.Place.TheVariants.{Quotient}
+use Rattle.sp_lang.specs.declared.verb.Place.TheVariants.{E, Residue, Degree, Partition, Peer, Grown, Factor}
+use Rattle.sp_lang.specs.declared.verb.Place.TheVariants.{Label, Heading, Quotient}
 use Rattle.sp_lang.proofs.Faultless.{Faultless, right_at}
 
 read_is : {A : Type 0} (o : Option A) (d : A) → is_none o ≡ false → o ≡ Some (unwrap_or o d)
@@ -100,7 +103,8 @@ given_of places ws k count shapes limit at =
     given (word_at ws k) (right_at is_no_partition places ws Partition k count shapes at)
     (right_at (passes_limit (number (word_at ws 2))) places ws Partition k count limit at)
 
-module _ (places : List Place) (ws : List (List ℕ)) (f : Faultless places ws) (k : ℕ) where
+module _ {convention : Convention} (places : List Place) (ws : List (List ℕ))
+    (f : Faultless convention places ws) (k : ℕ) where
   -- a word at the place of e says an e
   pub e_at : slice_get places k ≡ Some E → IsE (number (word_at ws k))
   e_at at = e_of places ws k f.count f.numbers f.e_range at
@@ -150,6 +154,19 @@ module _ (places : List Place) (ws : List (List ℕ)) (f : Faultless places ws) 
       let few = small (word_at ws k) m some (right_at (passes_limit m) places ws Grown k f.count f.limit at) in
       (is_partition (word_at ws k) some, few, fits (word_at ws k) m few)
 
+  -- one at the place of a factor one within the limit together with the first
+  pub factor_at : slice_get places k ≡ Some Factor →
+      IsGiven (partition (word_at ws k))
+      × (degree (partition (word_at ws 0)) + degree (partition (word_at ws k)) ≤ DEGREE_LIMIT)
+  factor_at at =
+      let n = degree (partition (word_at ws 0)) in
+      let some = right_at is_no_partition places ws Factor k f.count f.partitions at in
+      let few = small (word_at ws k) n some (right_at (passes_together n) places ws Factor k f.count f.together at) in (
+        given (word_at ws k) some
+            (right_at (passes_limit (number (word_at ws 2))) places ws Factor k f.count f.limit at),
+        omega (arith, few),
+      )
+
   -- one at the place of a label one that is e-regular
   pub label_at : slice_get places k ≡ Some Label →
       IsGiven (partition (word_at ws k)) × (is_regular (number (word_at ws 0)) (partition (word_at ws k)) ≡ true)
@@ -161,6 +178,20 @@ module _ (places : List Place) (ws : List (List ℕ)) (f : Faultless places ws) 
         not-false (is_regular e (partition (word_at ws k)))
             (unsaid (λ p. not (is_regular e p)) (partition_of (word_at ws k)) [] some
             (right_at (is_irregular e) places ws Label k f.count f.labels at)),
+      )
+
+  -- one at the place of a heading one that is a label
+  pub heading_at : slice_get places k ≡ Some Heading →
+      IsGiven (partition (word_at ws k))
+      × (is_regular (number (word_at ws 0)) (label_in convention (partition (word_at ws k))) ≡ true)
+  heading_at at =
+      let e = number (word_at ws 0) in
+      let some = right_at is_no_partition places ws Heading k f.count f.partitions at in (
+        given (word_at ws k) some
+            (right_at (passes_limit (number (word_at ws 2))) places ws Heading k f.count f.limit at),
+        not-false (is_regular e (label_in convention (partition (word_at ws k))))
+            (unsaid (λ p. not (is_regular e (label_in convention p))) (partition_of (word_at ws k)) [] some
+            (right_at (is_no_label convention e) places ws Heading k f.count f.headings at)),
       )
 
   -- one at the place of a quotient partitions that are held

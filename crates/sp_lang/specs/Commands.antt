@@ -4,6 +4,7 @@ use Rattle.std.specs.Prelude.{slice_index_or}
 use Rattle.std.specs.Cmp.Lexicographic.{pointwise}
 use Rattle.sp_partition.specs.Reading.{number_of, partition_of}
 use Rattle.sp_lang.specs.Words.{pieces}
+use Rattle.sp_lang.specs.Convention.{convention_said}
 use Rattle.sp_lang.specs.declared.command.Command.{Command}
 use Rattle.sp_lang.specs.declared.command.Command.TheVariants as command
 use Rattle.sp_lang.specs.declared.verb.Verb.{Verb}
@@ -11,10 +12,12 @@ use Rattle.sp_lang.specs.declared.verb.Verb.TheVariants.{Partitions, Regular, Co
 use Rattle.sp_lang.specs.declared.verb.Verb.TheVariants.{Content, Core, Combine, Abacus, Good, Path, Mullineux}
 use Rattle.sp_lang.specs.declared.verb.Verb.TheVariants.{Induce, Ladders, Ladder, Row, Crystal, Decomposition}
 use Rattle.sp_lang.specs.declared.verb.Verb.TheVariants.{Block, Painter, Jantzen, Schaper, Dim, Dims}
-use Rattle.sp_lang.specs.declared.verb.Verb.TheVariants.{Certificate, Check}
+use Rattle.sp_lang.specs.declared.verb.Verb.TheVariants.{Certificate, Check, Convention, Restrict, Commutator}
+use Rattle.sp_lang.specs.declared.verb.Verb.TheVariants.{Branch, Product, Fillings, Blocks, Inverse, Simple, Cartan}
 use Rattle.sp_lang.specs.declared.verb.Place.{Place}
-use Rattle.sp_lang.specs.declared.verb.Place.TheVariants.{E, Residue, Count, Degree, Partition, Peer, Grown, Label}
-use Rattle.sp_lang.specs.declared.verb.Place.TheVariants.{Quotient, Weight, Name}
+use Rattle.sp_lang.specs.declared.verb.Place.TheVariants.{E, Residue, Count, Degree, Partition, Peer, Grown, Factor}
+use Rattle.sp_lang.specs.declared.verb.Place.TheVariants.{Label, Heading, Quotient, Weight, Name}
+use Rattle.sp_lang.specs.declared.verb.Place.TheVariants as place
 
 abbrev pub name_of : Verb → List ℕ
 name_of Partitions = codes "partitions"
@@ -44,6 +47,16 @@ name_of Dim = codes "dim"
 name_of Dims = codes "dims"
 name_of Certificate = codes "certificate"
 name_of Check = codes "check"
+name_of Convention = codes "convention"
+name_of Restrict = codes "restrict"
+name_of Commutator = codes "commutator"
+name_of Branch = codes "branch"
+name_of Product = codes "product"
+name_of Fillings = codes "fillings"
+name_of Blocks = codes "blocks"
+name_of Inverse = codes "inverse"
+name_of Simple = codes "simple"
+name_of Cartan = codes "cartan"
 
 abbrev pub places_of : Verb → List Place
 places_of Partitions = Degree ∷ []
@@ -61,8 +74,8 @@ places_of Path = E ∷ Label ∷ []
 places_of Mullineux = E ∷ Label ∷ []
 places_of Induce = E ∷ Residue ∷ Count ∷ Grown ∷ []
 places_of Ladders = E ∷ Label ∷ []
-places_of Ladder = E ∷ Label ∷ []
-places_of Row = E ∷ Label ∷ []
+places_of Ladder = E ∷ Heading ∷ []
+places_of Row = E ∷ Heading ∷ []
 places_of Crystal = E ∷ Degree ∷ []
 places_of Decomposition = E ∷ Degree ∷ []
 places_of Block = E ∷ Partition ∷ Weight ∷ []
@@ -73,12 +86,23 @@ places_of Dim = Partition ∷ []
 places_of Dims = E ∷ Degree ∷ []
 places_of Certificate = E ∷ Degree ∷ []
 places_of Check = []
+places_of Convention = place.Convention ∷ []
+places_of Restrict = E ∷ Residue ∷ Partition ∷ []
+places_of Commutator = E ∷ Residue ∷ Residue ∷ Partition ∷ []
+places_of Branch = E ∷ Residue ∷ Label ∷ []
+places_of Product = Partition ∷ Factor ∷ []
+places_of Fillings = Partition ∷ Factor ∷ Partition ∷ []
+places_of Blocks = E ∷ Degree ∷ []
+places_of Inverse = E ∷ Degree ∷ []
+places_of Simple = E ∷ Label ∷ []
+places_of Cartan = E ∷ Degree ∷ []
 
 abbrev pub verbs : List Verb
 verbs =
     Partitions ∷ Regular ∷ Conjugate ∷ Dominates ∷ Diagram ∷ Hooks ∷ Content ∷ Core ∷ Combine ∷ Abacus ∷ Good ∷ Path
     ∷ Mullineux ∷ Induce ∷ Ladders ∷ Ladder ∷ Row ∷ Crystal ∷ Decomposition ∷ Block ∷ Painter ∷ Jantzen ∷ Schaper
-    ∷ Dim ∷ Dims ∷ Certificate ∷ Check ∷ []
+    ∷ Dim ∷ Dims ∷ Certificate ∷ Check ∷ Convention ∷ Restrict ∷ Commutator ∷ Branch ∷ Product ∷ Fillings ∷ Blocks
+    ∷ Inverse ∷ Simple ∷ Cartan ∷ []
 
 -- The command whose first word this is.
 unfoldable pub verb_of : List ℕ → Option Verb
@@ -137,6 +161,21 @@ command_with number_at partition_at partitions_at words Dims = command.Dims (num
 command_with number_at partition_at partitions_at words Certificate =
     command.Certificate (number_at 0) (number_at 1)
 command_with number_at partition_at partitions_at words Check = command.Check
+command_with number_at partition_at partitions_at words Convention =
+    command.Convention (convention_said (word_at words 0))
+command_with number_at partition_at partitions_at words Restrict =
+    command.Restrict (number_at 0) (number_at 1) (partition_at 2)
+command_with number_at partition_at partitions_at words Commutator =
+    command.Commutator (number_at 0) (number_at 1) (number_at 2) (partition_at 3)
+command_with number_at partition_at partitions_at words Branch =
+    command.Branch (number_at 0) (number_at 1) (partition_at 2)
+command_with number_at partition_at partitions_at words Product = command.Product (partition_at 0) (partition_at 1)
+command_with number_at partition_at partitions_at words Fillings =
+    command.Fillings (partition_at 0) (partition_at 1) (partition_at 2)
+command_with number_at partition_at partitions_at words Blocks = command.Blocks (number_at 0) (number_at 1)
+command_with number_at partition_at partitions_at words Inverse = command.Inverse (number_at 0) (number_at 1)
+command_with number_at partition_at partitions_at words Simple = command.Simple (number_at 0) (partition_at 1)
+command_with number_at partition_at partitions_at words Cartan = command.Cartan (number_at 0) (number_at 1)
 
 -- What the words behind the first one say.
 unfoldable pub command_of : Verb → List (List ℕ) → Command

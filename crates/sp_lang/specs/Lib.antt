@@ -1,4 +1,5 @@
 pub mod Words
+pub mod Convention
 pub mod Commands
 pub mod Faults
 pub mod Reading

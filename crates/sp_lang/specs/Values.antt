@@ -1,7 +1,7 @@
 -- What the parser reads of each word, and its tests: numbers stop at the greatest of 64 bits, and partitions past the
 -- capacity are left out. This project's own.
 use Rattle.std.specs.Prelude.{ℕ, ◌+◌, ◌-◌, ◌^◌, ◌==◌, min, cond, nat_le, nat_lt, Bool, true, false, ◌&&◌, not}
-use Rattle.std.specs.Prelude.{List, [], ◌∷◌, map, find, slice_get, Option, Some, is_none, Result, Ok, Err}
+use Rattle.std.specs.Prelude.{List, [], ◌∷◌, map, find, slice_get, Option, Some, is_none, unwrap_or, Result, Ok, Err}
 use Rattle.std.specs.List.{list_any, zip}
 use Rattle.std.specs.Option.{option_map, option_map_or}
 use Rattle.sp_defs.specs.Partition.{degree, is_regular}
@@ -10,18 +10,22 @@ use Rattle.sp_partition.specs.declared.TheConstants.{CAPACITY, DEGREE_LIMIT}
 use Rattle.sp_partition.specs.declared.partition.NotPartition.{NotPartition}
 use Rattle.sp_partition.specs.declared.partition.NotPartition.TheVariants.{Shape, PastCapacity}
 use Rattle.sp_lang.specs.Words.{pieces}
+use Rattle.sp_lang.specs.Convention.{label_in, label_fault, convention_of}
 use Rattle.sp_lang.specs.Commands.{partition, word_at, command_with}
 use Rattle.sp_lang.specs.Faults.{is_e, is_past}
+use Rattle.sp_lang.specs.declared.convention.Convention.{Convention}
+use Rattle.sp_lang.specs.declared.convention.Convention.TheVariants.{Regular}
 use Rattle.sp_lang.specs.declared.command.Command.{Command}
 use Rattle.sp_lang.specs.declared.fault.LineFault.{LineFault}
 use Rattle.sp_lang.specs.declared.fault.LineFault.TheVariants.{NotNumber, BadPartition, BadE, DegreePast}
-use Rattle.sp_lang.specs.declared.fault.LineFault.TheVariants.{NotRegular, BadResidue, DegreesDiffer}
+use Rattle.sp_lang.specs.declared.fault.LineFault.TheVariants.{NotRegular, BadResidue, DegreesDiffer, UnknownConvention}
 use Rattle.sp_lang.specs.declared.given.Given.{Given}
 use Rattle.sp_lang.specs.declared.test.Test.{Test}
 use Rattle.sp_lang.specs.declared.test.Test.TheVariants as test
 use Rattle.sp_lang.specs.declared.value.Pieces.{Pieces}
 use Rattle.sp_lang.specs.declared.value.Value.{Value}
 use Rattle.sp_lang.specs.declared.value.Value.TheVariants.{Number, Partition, Quotient, Name}
+use Rattle.sp_lang.specs.declared.value.Value.TheVariants as said
 use Rattle.sp_lang.specs.declared.verb.Place.{Place}
 use Rattle.sp_lang.specs.declared.verb.Place.TheVariants as place
 use Rattle.sp_lang.specs.declared.verb.Verb.{Verb}
@@ -49,9 +53,12 @@ value_of place.Weight word = number_read word
 value_of place.Partition word = partition_read word
 value_of place.Peer word = partition_read word
 value_of place.Grown word = partition_read word
+value_of place.Factor word = partition_read word
 value_of place.Label word = partition_read word
+value_of place.Heading word = partition_read word
 value_of place.Quotient word = Quotient (pieces_read word)
 value_of place.Name word = Name
+value_of place.Convention word = said.Convention (convention_of word)
 
 abbrev pub read : Place → List ℕ → Given
 read place word = record { place = place; word = word; value = value_of place word }
@@ -78,6 +85,10 @@ byte_said value = min (number_said value) 255
 abbrev pub partition_said : Value → List ℕ
 partition_said (Partition (Ok p)) = p
 partition_said other = []
+
+abbrev pub convention_read : Value → Convention
+convention_read (said.Convention read) = unwrap_or read Regular
+convention_read other = Regular
 
 abbrev pub fitting : List ℕ → List ℕ
 fitting word = let p = partition word in cond (nat_le (degree p) CAPACITY) p []
@@ -119,6 +130,10 @@ is_large more place (Partition read) = exceeds 0 read
 is_large more place (Quotient pieces) = pieces.any_past
 is_large more place value = false
 
+abbrev pub is_large_together : ℕ → Place → Value → Bool
+is_large_together more place.Factor (Partition read) = exceeds more read
+is_large_together more place value = false
+
 abbrev pub is_uneven : ℕ → Place → Value → Bool
 is_uneven n place.Peer (Partition (Ok p)) = not (degree p == n)
 is_uneven n place value = false
@@ -131,6 +146,15 @@ abbrev pub is_irregular : ℕ → Place → Value → Bool
 is_irregular e place.Label (Partition (Ok p)) = nat_le 2 e && not (is_regular e p)
 is_irregular e place value = false
 
+abbrev pub is_bad_heading : Convention → ℕ → Place → Value → Bool
+is_bad_heading convention e place.Heading (Partition (Ok p)) =
+    nat_le 2 e && not (is_regular e (label_in convention p))
+is_bad_heading convention e place value = false
+
+abbrev pub is_bad_convention : Value → Bool
+is_bad_convention (said.Convention read) = is_none read
+is_bad_convention other = false
+
 -- ---- the order of the tests
 
 -- What each test finds wrong.
@@ -139,22 +163,28 @@ fails test.Number place value = is_missing value
 fails test.Partition place value = is_shapeless value
 fails test.E place value = is_bad_e place value
 fails (test.Degree more) place value = is_large more place value
+fails (test.Together more) place value = is_large_together more place value
 fails (test.Peer n) place value = is_uneven n place value
 fails (test.Residue e) place value = is_bad_residue e place value
 fails (test.Regular e) place value = is_irregular e place value
+fails (test.Heading convention e) place value = is_bad_heading convention e place value
+fails test.Convention place value = is_bad_convention value
 
 abbrev pub any_given : (Place → Value → Bool) → List Given → Bool
 any_given wrong given = list_any (λ one. wrong one.place one.value) given
 
 -- The tests in their order, and the faults that they find.
-abbrev pub tests_of : List Given → List (Test × LineFault)
-tests_of given =
+abbrev pub tests_of : Convention → List Given → List (Test × LineFault)
+tests_of convention given =
     let first = value_at given 0 in
+    let n = degree (partition_said first) in
     (test.Number, NotNumber) ∷ (test.Partition, BadPartition) ∷ (test.E, BadE)
-    ∷ (test.Degree (byte_said (value_at given 2)), DegreePast)
-    ∷ (test.Peer (degree (partition_said first)), DegreesDiffer) ∷ (test.Residue (byte_said first), BadResidue)
-    ∷ (test.Regular (byte_said first), NotRegular) ∷ []
+    ∷ (test.Degree (byte_said (value_at given 2)), DegreePast) ∷ (test.Together n, DegreePast)
+    ∷ (test.Peer n, DegreesDiffer) ∷ (test.Residue (byte_said first), BadResidue)
+    ∷ (test.Regular (byte_said first), NotRegular)
+    ∷ (test.Heading convention (byte_said first), label_fault convention)
+    ∷ (test.Convention, UnknownConvention) ∷ []
 
-abbrev pub first_failing : List Given → Option LineFault
-first_failing given =
-    option_map (λ test. test.1) (find (λ test. any_given (fails test.0) given) (tests_of given))
+abbrev pub first_failing : Convention → List Given → Option LineFault
+first_failing convention given =
+    option_map (λ test. test.1) (find (λ test. any_given (fails test.0) given) (tests_of convention given))

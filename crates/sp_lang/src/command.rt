@@ -1,4 +1,4 @@
-use crate::Name;
+use crate::{Convention, Name};
 use sp_partition::{Items, Partition};
 
 /// A command. Its fields stand in the order of its words.
@@ -36,9 +36,9 @@ pub enum Command<'a> {
     Induce(u8, u8, u8, Partition),
     /// `ladders e mu`: the ladders of mu.
     Ladders(u8, Partition),
-    /// `ladder e mu`: the ladder vector of mu.
+    /// `ladder e mu`: the ladder vector of mu, which is a label in the convention in force.
     Ladder(u8, Partition),
-    /// `row e mu`: the row of mu.
+    /// `row e mu`: the row of mu, which is a label in the convention in force.
     Row(u8, Partition),
     /// `crystal e n`: the decomposition matrix of degree n, in v.
     Crystal(u8, u8),
@@ -60,4 +60,24 @@ pub enum Command<'a> {
     Certificate(u8, u8),
     /// `check`: whether the certificate in the lines behind it has the rows.
     Check,
+    /// `convention c`: labels are those of c from then on.
+    Convention(Convention),
+    /// `restrict e i p`: e_i on p.
+    Restrict(u8, u8, Partition),
+    /// `commutator e i j p`: e_i f_j - f_j e_i on p.
+    Commutator(u8, u8, u8, Partition),
+    /// `branch e i mu`: e_i on the row of mu.
+    Branch(u8, u8, Partition),
+    /// `product p q`: the product of p and q by the rule of Littlewood and Richardson.
+    Product(Partition, Partition),
+    /// `fillings p q r`: the fillings over p with the content q that end with r.
+    Fillings(Partition, Partition, Partition),
+    /// `blocks e n`: the blocks of degree n.
+    Blocks(u8, u8),
+    /// `inverse e n`: the inverse of the square decomposition matrix of degree n, in v.
+    Inverse(u8, u8),
+    /// `simple e mu`: the simple module of mu in Specht modules.
+    Simple(u8, Partition),
+    /// `cartan e n`: the Cartan matrix of degree n.
+    Cartan(u8, u8),
 }

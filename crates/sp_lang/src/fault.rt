@@ -11,10 +11,12 @@ pub enum LineFault {
     BadPartition,
     /// e is below 2 or past 64.
     BadE,
-    /// A degree is past `DEGREE_LIMIT`.
+    /// A degree is past `DEGREE_LIMIT`, or that of two factors together.
     DegreePast,
     /// The partition must be e-regular and isn't.
     NotRegular,
+    /// The partition must be e-restricted, as its convention says, and isn't.
+    NotRestricted,
     /// The residue is not below e.
     BadResidue,
     /// The line is longer than `LINE_LIMIT` bytes.
@@ -23,6 +25,8 @@ pub enum LineFault {
     BadByte,
     /// The two partitions are of different degrees.
     DegreesDiffer,
+    /// The word is no convention.
+    UnknownConvention,
     /// No memory was found for the command.
     Memory,
 }

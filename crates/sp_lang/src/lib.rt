@@ -4,8 +4,13 @@
 ghost use Rattle.std.specs.Prelude.{◌≡◌};
 
 mod command;
+mod convention;
 mod fault;
 mod given;
+#[cfg(test)]
+mod label_tests;
+#[cfg(test)]
+mod module_tests;
 mod name;
 mod read;
 mod test;
@@ -16,6 +21,7 @@ mod verb;
 mod words;
 
 pub use command::Command;
+pub use convention::Convention;
 pub use fault::LineFault;
 pub use name::Name;
 pub use read::read_command;

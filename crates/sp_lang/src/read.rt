@@ -2,6 +2,7 @@
 ghost use Rattle.std.specs.Prelude.{◌≡◌, ◌≢◌, IfOk, OnErr, find, length};
 ghost use Rattle.std.specs.List.{list_all};
 ghost use Rattle.sp_lang.specs.Words.{words, is_allowed as allowed};
+ghost use Rattle.sp_lang.specs.Convention.{convention_said, label_fault as fault_in};
 ghost use Rattle.sp_lang.specs.Commands.{verb_of as verb_named, places_of, word_at as word_in, weight as weight_of};
 ghost use Rattle.sp_lang.specs.Reading.{reading, said as said_by, said_behind as said_behind_by};
 ghost use Rattle.sp_lang.specs.Given.{IsCommand, WantsMemory};
@@ -13,19 +14,24 @@ use crate::test::{Test, any_fails};
 use crate::value::all_fitting;
 use crate::verb::{VERBS, Verb};
 use crate::words::split_word;
-use crate::{Command, LINE_LIMIT, LineFault, Name};
+use crate::{Command, Convention, LINE_LIMIT, LineFault, Name};
 use sp_partition::Items;
 use std::alloc::{AllocError, Global};
 
-/// The one command that a line says, or its first fault.
+/// The one command that a line says, or its first fault, under the convention in force.
 ///
 /// The line is without its newline. Faults are looked for in this order: `LongLine`, `BadByte`, `UnknownCommand`,
-/// `WordCount`, `NotNumber`, `BadPartition`, `BadE`, `DegreePast`, `DegreesDiffer`, `BadResidue`, `NotRegular`.
-/// `Memory` comes where the pieces of a quotient find none.
-pub fn read_command(alloc: Global, line: &[u8]) -> Result<Command<'_>, LineFault>
-    ensures reads { result ≢ Err LineFault.Memory → result ≡ reading line.now }
-    ensures command { IfOk result IsCommand }
-    ensures memory { result ≡ Err LineFault.Memory → WantsMemory (reading line.now) }
+/// `WordCount`, `NotNumber`, `BadPartition`, `BadE`, `DegreePast`, `DegreesDiffer`, `BadResidue`, `NotRegular` or
+/// `NotRestricted`, `UnknownConvention`. The convention decides what `ladder` and `row` take, and `NotRestricted` comes
+/// of these alone. `Memory` comes where the pieces of a quotient find none.
+pub fn read_command(
+    alloc: Global,
+    convention: Convention,
+    line: &[u8],
+) -> Result<Command<'_>, LineFault>
+    ensures reads { result ≢ Err LineFault.Memory → result ≡ reading convention line.now }
+    ensures command { IfOk result (IsCommand convention) }
+    ensures memory { result ≡ Err LineFault.Memory → WantsMemory (reading convention line.now) }
 {
     if line.len() > LINE_LIMIT {
         return Err(LineFault::LongLine);
@@ -33,7 +39,7 @@ pub fn read_command(alloc: Global, line: &[u8]) -> Result<Command<'_>, LineFault
     if !are_allowed(line) {
         return Err(LineFault::BadByte);
     }
-    said(alloc, line)
+    said(alloc, convention, line)
 }
 
 fn are_allowed(line: &[u8]) -> bool
@@ -48,9 +54,9 @@ fn is_allowed(byte: u8) -> bool
     b' ' <= byte && byte <= b'~' || byte == b'\t'
 }
 
-fn said(alloc: Global, line: &[u8]) -> Result<Command<'_>, LineFault>
-    ensures reads { result ≢ Err LineFault.Memory → result ≡ said_by (words line.now) }
-    ensures memory { result ≡ Err LineFault.Memory → WantsMemory (said_by (words line.now)) }
+fn said(alloc: Global, convention: Convention, line: &[u8]) -> Result<Command<'_>, LineFault>
+    ensures reads { result ≢ Err LineFault.Memory → result ≡ said_by convention (words line.now) }
+    ensures memory { result ≡ Err LineFault.Memory → WantsMemory (said_by convention (words line.now)) }
 {
     let Some((first, rest)) = split_word(line) else {
         return Ok(Command::Nothing);
@@ -59,7 +65,7 @@ fn said(alloc: Global, line: &[u8]) -> Result<Command<'_>, LineFault>
         return Ok(Command::Nothing);
     }
     match verb_of(first) {
-        Some(verb) => said_behind(alloc, verb, rest),
+        Some(verb) => said_behind(alloc, convention, verb, rest),
         None => Err(LineFault::UnknownCommand),
     }
 }
@@ -70,24 +76,37 @@ fn verb_of(word: &[u8]) -> Option<Verb>
     VERBS.iter().find(|verb| verb.name() == word).copied()
 }
 
-fn said_behind(alloc: Global, verb: Verb, rest: &[u8]) -> Result<Command<'_>, LineFault>
-    ensures reads { result ≢ Err LineFault.Memory → result ≡ said_behind_by (Some verb) (words rest.now) }
-    ensures memory { result ≡ Err LineFault.Memory → WantsMemory (said_behind_by (Some verb) (words rest.now)) }
+fn said_behind(
+    alloc: Global,
+    convention: Convention,
+    verb: Verb,
+    rest: &[u8],
+) -> Result<Command<'_>, LineFault>
+    ensures reads { result ≢ Err LineFault.Memory → result ≡ said_behind_by convention (Some verb) (words rest.now) }
+    ensures memory { result ≡ Err LineFault.Memory
+        → WantsMemory (said_behind_by convention (Some verb) (words rest.now)) }
 {
     match read_words(verb.places(), rest) {
-        Some(given) => said_by_all(alloc, verb, given.as_slice()),
+        Some(given) => said_by_all(alloc, convention, verb, given.as_slice()),
         None => Err(LineFault::WordCount),
     }
 }
 
 // What as many words say as there are places.
-fn said_by_all<'a>(alloc: Global, verb: Verb, given: &[Given<'a>]) -> Result<Command<'a>, LineFault>
+fn said_by_all<'a>(
+    alloc: Global,
+    convention: Convention,
+    verb: Verb,
+    given: &[Given<'a>],
+) -> Result<Command<'a>, LineFault>
     requires count { length given.now ≡ length (places_of verb) }
     requires read { given.now ≡ read_all (places_of verb) (words_of given.now) }
-    ensures reads { result ≢ Err LineFault.Memory → result ≡ said_behind_by (Some verb) (words_of given.now) }
-    ensures memory { result ≡ Err LineFault.Memory → WantsMemory (said_behind_by (Some verb) (words_of given.now)) }
+    ensures reads { result ≢ Err LineFault.Memory
+        → result ≡ said_behind_by convention (Some verb) (words_of given.now) }
+    ensures memory { result ≡ Err LineFault.Memory
+        → WantsMemory (said_behind_by convention (Some verb) (words_of given.now)) }
 {
-    if let Some(fault) = first_fault(given) {
+    if let Some(fault) = first_fault(convention, given) {
         return Err(fault);
     }
     match command(alloc, verb, given) {
@@ -97,10 +116,10 @@ fn said_by_all<'a>(alloc: Global, verb: Verb, given: &[Given<'a>]) -> Result<Com
 }
 
 // The first fault of as many words as there are places.
-fn first_fault(given: &[Given]) -> Option<LineFault>
-    ensures { result ≡ first_failing given.now }
+fn first_fault(convention: Convention, given: &[Given]) -> Option<LineFault>
+    ensures { result ≡ first_failing convention given.now }
 {
-    let tests = tests_of(given);
+    let tests = tests_of(convention, given);
     match first_of(&tests, given) {
         Some((_, fault)) => Some(fault),
         None => None,
@@ -108,23 +127,37 @@ fn first_fault(given: &[Given]) -> Option<LineFault>
 }
 
 // The tests in their order, and the faults that they find.
-fn tests_of(given: &[Given]) -> [(Test, LineFault); 7]
-    ensures { result ≡ tests_by given.now }
+fn tests_of(convention: Convention, given: &[Given]) -> [(Test, LineFault); 10]
+    ensures { result ≡ tests_by convention given.now }
 {
     let first = value_at(given, 0);
     let third = value_at(given, 2);
+    let degree = first.partition().degree();
     [
         (Test::Number, LineFault::NotNumber),
         (Test::Partition, LineFault::BadPartition),
         (Test::E, LineFault::BadE),
         (Test::Degree(third.byte()), LineFault::DegreePast),
-        (
-            Test::Peer(first.partition().degree()),
-            LineFault::DegreesDiffer,
-        ),
+        (Test::Together(degree), LineFault::DegreePast),
+        (Test::Peer(degree), LineFault::DegreesDiffer),
         (Test::Residue(first.byte()), LineFault::BadResidue),
         (Test::Regular(first.byte()), LineFault::NotRegular),
+        (
+            Test::Heading(convention, first.byte()),
+            label_fault(convention),
+        ),
+        (Test::Convention, LineFault::UnknownConvention),
     ]
+}
+
+// What is said of a heading that is no label.
+fn label_fault(convention: Convention) -> LineFault
+    ensures { result ≡ fault_in convention }
+{
+    match convention {
+        Convention::Regular => LineFault::NotRegular,
+        Convention::Restricted => LineFault::NotRestricted,
+    }
 }
 
 // The first of the tests that finds a word wrong, and its fault.
@@ -173,6 +206,16 @@ fn command<'a>(alloc: Global, verb: Verb, given: &[Given<'a>]) -> Result<Command
         Verb::Dims => Command::Dims(number(0), number(1)),
         Verb::Certificate => Command::Certificate(number(0), number(1)),
         Verb::Check => Command::Check,
+        Verb::Convention => Command::Convention(convention(given)),
+        Verb::Restrict => Command::Restrict(number(0), number(1), partition(2)),
+        Verb::Commutator => Command::Commutator(number(0), number(1), number(2), partition(3)),
+        Verb::Branch => Command::Branch(number(0), number(1), partition(2)),
+        Verb::Product => Command::Product(partition(0), partition(1)),
+        Verb::Fillings => Command::Fillings(partition(0), partition(1), partition(2)),
+        Verb::Blocks => Command::Blocks(number(0), number(1)),
+        Verb::Inverse => Command::Inverse(number(0), number(1)),
+        Verb::Simple => Command::Simple(number(0), partition(1)),
+        Verb::Cartan => Command::Cartan(number(0), number(1)),
     })
 }
 
@@ -182,4 +225,12 @@ fn weight(given: &[Given]) -> u64
     ensures { result ≡ weight_of (word_in (words_of given.now) 2) }
 {
     value_at(given, 2).number()
+}
+
+// The convention that `convention` names.
+fn convention(given: &[Given]) -> Convention
+    requires { given.now ≡ read_all (places_of Verb.Convention) (words_of given.now) }
+    ensures { result ≡ convention_said (word_in (words_of given.now) 0) }
+{
+    value_at(given, 0).convention()
 }

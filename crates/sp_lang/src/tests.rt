@@ -1,9 +1,9 @@
-use crate::{Command, LineFault, read_command};
+use crate::{Command, Convention, LineFault, read_command};
 use sp_partition::Partition;
 use std::test::Fail;
 
-/// The word of a command, its first partition or its name, and its numbers.
-fn shown<'a>(command: &'a Command<'a>) -> (&'static str, &'a [u8], [u64; 3]) {
+/// The word of a command, its first partition or its name, and its numbers and the degrees of its other partitions.
+pub(crate) fn shown<'a>(command: &'a Command<'a>) -> (&'static str, &'a [u8], [u64; 3]) {
     match command {
         Command::Nothing => ("nothing", &[], [0; 3]),
         Command::Partitions(n) => ("partitions", &[], [u64::from(*n), 0, 0]),
@@ -41,6 +41,24 @@ fn shown<'a>(command: &'a Command<'a>) -> (&'static str, &'a [u8], [u64; 3]) {
         Command::Dims(e, n) => ("dims", &[], [u64::from(*e), u64::from(*n), 0]),
         Command::Certificate(e, n) => ("certificate", &[], [u64::from(*e), u64::from(*n), 0]),
         Command::Check => ("check", &[], [0; 3]),
+        Command::Convention(convention) => ("convention", convention.name(), [0; 3]),
+        Command::Restrict(e, i, p) => ("restrict", p.parts(), [u64::from(*e), u64::from(*i), 0]),
+        Command::Commutator(e, i, j, p) => (
+            "commutator",
+            p.parts(),
+            [u64::from(*e), u64::from(*i), u64::from(*j)],
+        ),
+        Command::Branch(e, i, mu) => ("branch", mu.parts(), [u64::from(*e), u64::from(*i), 0]),
+        Command::Product(p, q) => ("product", p.parts(), [u64::from(q.degree()), 0, 0]),
+        Command::Fillings(p, q, r) => (
+            "fillings",
+            p.parts(),
+            [u64::from(q.degree()), u64::from(r.degree()), 0],
+        ),
+        Command::Blocks(e, n) => ("blocks", &[], [u64::from(*e), u64::from(*n), 0]),
+        Command::Inverse(e, n) => ("inverse", &[], [u64::from(*e), u64::from(*n), 0]),
+        Command::Simple(e, mu) => ("simple", mu.parts(), [u64::from(*e), 0, 0]),
+        Command::Cartan(e, n) => ("cartan", &[], [u64::from(*e), u64::from(*n), 0]),
     }
 }
 
@@ -130,7 +148,7 @@ fn lines_and_their_commands(rt: HostRuntime) -> Result<(), Fail> {
         (b" \tcheck ", "check", &[], [0; 3]),
     ];
     for (line, word, parts, numbers) in cases {
-        let outcome = read_command(rt.alloc(), line);
+        let outcome = read_command(rt.alloc(), Convention::Regular, line);
         assert!(rt; outcome.is_ok(), "at {line:?}");
         if let Ok(command) = &outcome {
             let (other_word, other_parts, other_numbers) = shown(command);
@@ -220,7 +238,7 @@ fn lines_and_their_faults(rt: HostRuntime) -> Result<(), Fail> {
         (b"painter \x80", LineFault::BadByte),
     ];
     for (line, fault) in cases {
-        let outcome = read_command(rt.alloc(), line).err();
+        let outcome = read_command(rt.alloc(), Convention::Regular, line).err();
         assert!(rt; outcome == Some(fault), "at {line:?}");
     }
     Ok(())
@@ -234,12 +252,12 @@ fn lines_of_many_bytes(rt: HostRuntime) -> Result<(), Fail> {
     }
     assert!(rt;
         matches!(
-            read_command(rt.alloc(), line.as_slice()),
+            read_command(rt.alloc(), Convention::Regular, line.as_slice()),
             Ok(Command::Nothing)
         )
     );
     line.push(b'\r')?;
-    let outcome = read_command(rt.alloc(), line.as_slice()).err();
+    let outcome = read_command(rt.alloc(), Convention::Regular, line.as_slice()).err();
     assert!(rt; outcome == Some(LineFault::LongLine));
     Ok(())
 }

@@ -8,8 +8,10 @@ ghost use Rattle.sp_partition.specs.Reading.{number_of, is_number as number_word
 ghost use Rattle.sp_lang.specs.Words.{pieces};
 ghost use Rattle.sp_lang.specs.Faults.{is_past as past};
 ghost use Rattle.sp_lang.specs.Values.{value_of as value_in, number_said, byte_said, partition_said, exceeds as beyond};
-ghost use Rattle.sp_lang.specs.Values.{fitting as fitting_of, all_fitting as all_fitting_of};
+ghost use Rattle.sp_lang.specs.Values.{fitting as fitting_of, all_fitting as all_fitting_of, convention_read};
 
+use crate::Convention;
+use crate::convention::convention_of;
 use crate::verb::Place;
 use sp_partition::{DEGREE_LIMIT, NotPartition, Partition};
 use std::alloc::{AllocError, Global};
@@ -25,6 +27,8 @@ pub enum Value {
     Quotient(Pieces),
     /// Nothing is asked of a name.
     Name,
+    /// The convention, where the word names one.
+    Convention(Option<Convention>),
 }
 
 /// What is known of the pieces of a quotient before there is memory for them.
@@ -44,14 +48,18 @@ pub(crate) fn value_of(place: Place, word: &[u8]) -> Value
         Place::E | Place::Residue | Place::Count | Place::Degree | Place::Weight => {
             Value::Number(number(word))
         }
-        Place::Partition | Place::Peer | Place::Grown | Place::Label => {
-            Value::Partition(Partition::parse(word))
-        }
+        Place::Partition
+        | Place::Peer
+        | Place::Grown
+        | Place::Factor
+        | Place::Label
+        | Place::Heading => Value::Partition(Partition::parse(word)),
         Place::Quotient => Value::Quotient(Pieces {
             any_shapeless: any_shapeless(word),
             any_past: any_past(word),
         }),
         Place::Name => Value::Name,
+        Place::Convention => Value::Convention(convention_of(word)),
     }
 }
 
@@ -80,6 +88,16 @@ impl Value {
         match *self {
             Value::Partition(Ok(p)) => p,
             _ => Partition::empty(),
+        }
+    }
+
+    /// The convention, or the regular one where there is none.
+    pub(crate) fn convention(&self) -> Convention
+        ensures { result ≡ convention_read self.now }
+    {
+        match *self {
+            Value::Convention(Some(convention)) => convention,
+            _ => Convention::Regular,
         }
     }
 }

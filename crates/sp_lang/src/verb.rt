@@ -32,6 +32,16 @@ pub enum Verb {
     Dims,
     Certificate,
     Check,
+    Convention,
+    Restrict,
+    Commutator,
+    Branch,
+    Product,
+    Fillings,
+    Blocks,
+    Inverse,
+    Simple,
+    Cartan,
 }
 
 /// What a word of a command stands for.
@@ -51,17 +61,23 @@ pub enum Place {
     Peer,
     /// A partition that as many nodes are added to as the third word says.
     Grown,
+    /// A partition whose degree, together with that of the first word, is within the limit.
+    Factor,
     /// A partition that is e-regular, where e is the first word.
     Label,
+    /// A partition that labels a row: e-regular or e-restricted, as the convention says.
+    Heading,
     /// Partitions with bars between.
     Quotient,
     /// The weight of a block.
     Weight,
     /// The name of a painter.
     Name,
+    /// The name of a convention.
+    Convention,
 }
 
-pub(crate) const VERBS: [Verb; 27] = [
+pub(crate) const VERBS: [Verb; 37] = [
     Verb::Partitions,
     Verb::Regular,
     Verb::Conjugate,
@@ -89,6 +105,16 @@ pub(crate) const VERBS: [Verb; 27] = [
     Verb::Dims,
     Verb::Certificate,
     Verb::Check,
+    Verb::Convention,
+    Verb::Restrict,
+    Verb::Commutator,
+    Verb::Branch,
+    Verb::Product,
+    Verb::Fillings,
+    Verb::Blocks,
+    Verb::Inverse,
+    Verb::Simple,
+    Verb::Cartan,
 ];
 
 impl Verb {
@@ -124,6 +150,16 @@ impl Verb {
             Verb::Dims => b"dims",
             Verb::Certificate => b"certificate",
             Verb::Check => b"check",
+            Verb::Convention => b"convention",
+            Verb::Restrict => b"restrict",
+            Verb::Commutator => b"commutator",
+            Verb::Branch => b"branch",
+            Verb::Product => b"product",
+            Verb::Fillings => b"fillings",
+            Verb::Blocks => b"blocks",
+            Verb::Inverse => b"inverse",
+            Verb::Simple => b"simple",
+            Verb::Cartan => b"cartan",
         }
     }
 
@@ -147,8 +183,8 @@ impl Verb {
             Verb::Mullineux => &[Place::E, Place::Label],
             Verb::Induce => &[Place::E, Place::Residue, Place::Count, Place::Grown],
             Verb::Ladders => &[Place::E, Place::Label],
-            Verb::Ladder => &[Place::E, Place::Label],
-            Verb::Row => &[Place::E, Place::Label],
+            Verb::Ladder => &[Place::E, Place::Heading],
+            Verb::Row => &[Place::E, Place::Heading],
             Verb::Crystal => &[Place::E, Place::Degree],
             Verb::Decomposition => &[Place::E, Place::Degree],
             Verb::Block => &[Place::E, Place::Partition, Place::Weight],
@@ -159,6 +195,16 @@ impl Verb {
             Verb::Dims => &[Place::E, Place::Degree],
             Verb::Certificate => &[Place::E, Place::Degree],
             Verb::Check => &[],
+            Verb::Convention => &[Place::Convention],
+            Verb::Restrict => &[Place::E, Place::Residue, Place::Partition],
+            Verb::Commutator => &[Place::E, Place::Residue, Place::Residue, Place::Partition],
+            Verb::Branch => &[Place::E, Place::Residue, Place::Label],
+            Verb::Product => &[Place::Partition, Place::Factor],
+            Verb::Fillings => &[Place::Partition, Place::Factor, Place::Partition],
+            Verb::Blocks => &[Place::E, Place::Degree],
+            Verb::Inverse => &[Place::E, Place::Degree],
+            Verb::Simple => &[Place::E, Place::Label],
+            Verb::Cartan => &[Place::E, Place::Degree],
         }
     }
 }

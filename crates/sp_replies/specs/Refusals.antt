@@ -10,7 +10,7 @@ use Rattle.sp_replies.specs.Words.{line_of}
 use Rattle.sp_replies.specs.declared.refusals.Refusal.{Refusal}
 use Rattle.sp_replies.specs.declared.refusals.Refusal.TheVariants.{TooLarge, LargeColumn, Stray, StrayColumn, NoPath}
 use Rattle.sp_replies.specs.declared.refusals.Refusal.TheVariants.{UnknownPainter, NotCore, WrongCount, PastDegree}
-use Rattle.sp_replies.specs.declared.refusals.Refusal.TheVariants.{Malformed, WrongColumn}
+use Rattle.sp_replies.specs.declared.refusals.Refusal.TheVariants.{Malformed, WrongColumn, TooMany}
 
 abbrev pub refusal_line : Refusal → List ℕ
 refusal_line TooLarge = line_of (codes "error 9 too large")
@@ -26,6 +26,7 @@ refusal_line WrongCount = line_of (codes "error 18 not e quotients")
 refusal_line PastDegree = line_of (codes "error 18 degree past 30")
 refusal_line (Malformed line) = line_of (codes "error 15 certificate malformed at line " ++ decimal line)
 refusal_line (WrongColumn column) = line_of (codes "error 16 certificate wrong at column " ++ partition_text column)
+refusal_line TooMany = line_of (codes "error 20 too many fillings")
 
 -- As a row is refused that a command asks for alone.
 abbrev pub by_row : Refused → Refusal

@@ -23,10 +23,12 @@ fn line_of(fault: LineFault) -> &'static [u8]
         LineFault::BadE => b"error 5 e not in 2..64\n",
         LineFault::DegreePast => b"error 6 degree past 30\n",
         LineFault::NotRegular => b"error 7 not e-regular\n",
+        LineFault::NotRestricted => b"error 7 not e-restricted\n",
         LineFault::BadResidue => b"error 8 residue not below e\n",
         LineFault::LongLine => b"error 12 line past 4096 bytes\n",
         LineFault::BadByte => b"error 13 byte not allowed\n",
         LineFault::DegreesDiffer => b"error 17 degrees differ\n",
+        LineFault::UnknownConvention => b"error 19 unknown convention\n",
         LineFault::Memory => b"",
     }
 }

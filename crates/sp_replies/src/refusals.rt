@@ -36,6 +36,8 @@ pub enum Refusal {
     Malformed { line: u64 },
     /// This column of a certificate is not the row, or these are not its shares.
     WrongColumn { column: Partition },
+    /// There are more fillings than are listed.
+    TooMany,
 }
 
 impl From<Refused> for Refusal {
@@ -113,6 +115,7 @@ pub fn put_refusal(alloc: Global, why: &Refusal, out: &mut Vec<u8>) -> Result<()
         Refusal::WrongColumn { column } => {
             put_named(alloc, b"error 16 certificate wrong at column ", column, out)
         }
+        Refusal::TooMany => out.extend_from_slice(b"error 20 too many fillings\n"),
     }
 }
 

@@ -50,3 +50,13 @@ fn a_certificate_is_refused_at_a_line_or_a_column(rt: HostRuntime) -> Result<(),
     );
     Ok(())
 }
+
+// No product of the degrees that the commands take has as many.
+#[test]
+fn too_many_fillings_are_refused(rt: HostRuntime) -> Result<(), Fail> {
+    assert_eq!(rt;
+        line_of(rt.alloc(), &Refusal::TooMany)?.as_slice(),
+        b"error 20 too many fillings\n".as_slice()
+    );
+    Ok(())
+}

@@ -21,17 +21,18 @@ said_by_all-requires-clause-read c = (given_read c).own
 pub returns-in-Some-clause-reads : goal.returns-in-Some-clause-reads
 returns-in-Some-clause-reads c other =
     c.said_by_all.ensures.reads other
-    ∙ ap (said_behind (Some c.args.verb))
+    ∙ ap (said_behind c.args.convention (Some c.args.verb))
     (all_read c.args.verb (words c.args.rest.now) c.places.result.now c.in-Some.given.items c.as_slice.result.now
     c.places.ensures c.in-Some.ensures c.as_slice.ensures.value).words
 
 pub returns-in-Some-clause-memory : goal.returns-in-Some-clause-memory
 returns-in-Some-clause-memory c is =
-    subst (λ ws. WantsMemory (said_behind (Some c.args.verb) ws))
+    subst (λ ws. WantsMemory (said_behind c.args.convention (Some c.args.verb) ws))
     (all_read c.args.verb (words c.args.rest.now) c.places.result.now c.in-Some.given.items c.as_slice.result.now
     c.places.ensures c.in-Some.ensures c.as_slice.ensures.value).words
     (c.said_by_all.ensures.memory is)
 
 pub returns-in-None-clause-reads : goal.returns-in-None-clause-reads
 returns-in-None-clause-reads c other =
-    miscounted c.args.verb (words c.args.rest.now) c.places.result.now c.places.ensures c.in-None.ensures
+    miscounted c.args.convention c.args.verb (words c.args.rest.now) c.places.result.now c.places.ensures
+    c.in-None.ensures

@@ -8,16 +8,16 @@ use Rattle.sp_lang.proofs.read.said_by_all.Goals as goal
 pub returns-in-Some-clause-reads : goal.returns-in-Some-clause-reads
 returns-in-Some-clause-reads c other =
     ap (or_fault (command_of c.args.verb (words_of c.args.given.now)))
-    (c.in-Some.ensures ∙ tested c.args.verb c.args.given.now c.requires.count c.requires.read)
+    (c.in-Some.ensures ∙ tested c.args.convention c.args.verb c.args.given.now c.requires.count c.requires.read)
 
 pub returns-in-Ok-clause-reads : goal.returns-in-Ok-clause-reads
 returns-in-Ok-clause-reads c other =
-    answered c.args.verb (words_of c.args.given.now) c.in-Ok.command
-    (c.in_default.ensures ∙ tested c.args.verb c.args.given.now c.requires.count c.requires.read)
+    answered c.args.convention c.args.verb (words_of c.args.given.now) c.in-Ok.command
+    (c.in_default.ensures ∙ tested c.args.convention c.args.verb c.args.given.now c.requires.count c.requires.read)
     (c.in-Ok.ensures.exact ∙ ap (given_command c.args.verb) c.requires.read)
 
 pub returns-in-Err-clause-memory : goal.returns-in-Err-clause-memory
 returns-in-Err-clause-memory c is =
-    wanted c.args.verb (words_of c.args.given.now)
-    (c.in_default.ensures ∙ tested c.args.verb c.args.given.now c.requires.count c.requires.read)
+    wanted c.args.convention c.args.verb (words_of c.args.given.now)
+    (c.in_default.ensures ∙ tested c.args.convention c.args.verb c.args.given.now c.requires.count c.requires.read)
     c.in-Err.ensures.memory
