@@ -1,23 +1,27 @@
 -- What a line says, and what holds of it.
-use Rattle.std.proofs.Common.{◌≡◌, ◌≢◌, ℕ, ◌<◌, ◌≤◌, true, false, cond, not, List, [], ◌∷◌, length, refl, sym}
+use Rattle.std.proofs.Common.{◌≡◌, ◌≢◌, ℕ, ◌<◌, ◌≤◌, Bool, true, false, cond, not, List, [], ◌∷◌, length, refl, sym}
 use Rattle.std.proofs.Common.{◌∙◌, ap, subst, eqb, nat_lt}
 use Rattle.std.proofs.lemmas.Bool.{cond_both, cond-true, cond-false, lt-ltb, le-ltb}
 use Rattle.std.proofs.lemmas.List.{length-map}
-use Rattle.std.specs.Prelude.{Option, Some, None, Result, Ok, Err, IfOk, codes}
-use Rattle.std.specs.List.{list_all, starts_with}
+use Rattle.std.specs.Prelude.{Option, Some, None, Result, Ok, Err, IfOk, codes, find}
+use Rattle.std.specs.List.{list_all, starts_with, AllByRecursion}
+use Rattle.std.specs.Option.{option_map}
 use Rattle.sp_lang.specs.Words.{is_allowed, words}
+use Rattle.sp_lang.specs.Convention.{label_fault}
 use Rattle.sp_lang.specs.Commands.{verb_of, places_of, command_of}
 use Rattle.sp_lang.specs.Faults.{first_fault}
 use Rattle.sp_lang.specs.Given.{IsCommand, WantsMemory}
 use Rattle.sp_lang.specs.Reading.{or_fault, said_behind, said, reading}
-use Rattle.sp_lang.specs.Values.{given_command, read_all, words_of, first_failing}
+use Rattle.sp_lang.specs.Values.{given_command, read_all, words_of, any_given, fails, tests_of, first_failing}
 use Rattle.sp_lang.specs.declared.given.Given.{Given}
 use Rattle.sp_lang.specs.declared.TheConstants.{LINE_LIMIT}
 use Rattle.sp_lang.specs.declared.convention.Convention.{Convention}
+use Rattle.sp_lang.specs.declared.convention.Convention.TheVariants.{Regular, Restricted}
 use Rattle.sp_lang.specs.declared.command.Command.{Command}
 use Rattle.sp_lang.specs.declared.command.Command.TheVariants.{Nothing}
 use Rattle.sp_lang.specs.declared.fault.LineFault.{LineFault}
 use Rattle.sp_lang.specs.declared.fault.LineFault.TheVariants.{WordCount, LongLine, BadByte, Memory}
+use Rattle.sp_lang.specs.declared.test.Test.{Test}
 use Rattle.sp_lang.specs.declared.verb.Place.{Place}
 use Rattle.sp_lang.specs.declared.verb.Verb.{Verb}
 use Rattle.sp_lang.specs.declared.verb.Verb.TheVariants.{Combine}
@@ -63,6 +67,60 @@ pub tested : (convention : Convention) (verb : Verb) (given : List Given) → le
 tested convention verb given count own =
     ap (first_failing convention) own
     ∙ same_count convention verb (words_of given) (length-map given (λ one. one.word) ∙ count)
+
+-- ---- no word is at fault for want of memory
+
+found_in : (p : Test × LineFault → Bool) (tests : List (Test × LineFault)) →
+    AllByRecursion (λ (test : Test × LineFault). test.1 ≢ Memory) tests →
+    option_map (λ (test : Test × LineFault). test.1) (find p tests) ≡ Some Memory → ⊥
+found_in p [] all h = absurd (cc)
+found_in p (test ∷ tests) all h = by_test (p test) (found_in p tests all.1) h
+  where
+    by_test : (t : Bool) →
+        (option_map (λ (test : Test × LineFault). test.1) (find p tests) ≡ Some Memory → ⊥) →
+        option_map (λ (test : Test × LineFault). test.1) (cond t (Some test) (find p tests)) ≡ Some Memory → ⊥
+    by_test true rest h = let same : test.1 ≡ Memory = cc in all.0 same
+    by_test false rest h = rest h
+
+label_fault-other : (convention : Convention) → label_fault convention ≢ Memory
+label_fault-other Regular e = cc
+label_fault-other Restricted e = cc
+
+-- No test finds want of memory.
+no_memory : (convention : Convention) (given : List Given) → first_failing convention given ≡ Some Memory → ⊥
+no_memory convention given =
+    found_in (λ test. any_given (fails test.0) given) (tests_of convention given) (
+      λ e. cc,
+      (
+        λ e. cc,
+        (
+          λ e. cc,
+          (
+            λ e. cc,
+            (
+              λ e. cc,
+              (
+                λ e. cc,
+                (
+                  λ e. cc,
+                  (
+                    λ e. cc,
+                    (label_fault-other convention, (λ e. cc, tt)),
+                  ),
+                ),
+              ),
+            ),
+          ),
+        ),
+      ),
+    )
+
+-- So a fault of the words is none.
+pub other_fault : (convention : Convention) (given : List Given) (fault : LineFault) →
+    Some fault ≡ first_failing convention given → fault ≢ Memory
+other_fault convention given fault found e = no_memory convention given (sym found ∙ ap Some e)
+
+-- ---- what the words say
 
 -- Words without a fault say their command.
 pub answered : (convention : Convention) (verb : Verb) (ws : List (List ℕ)) (command : Command) →

@@ -143,8 +143,12 @@ exact verb.Convention ws f =
 exact Restrict ws f =
     cc (exact_e _ ws f refl, exact_residue _ ws f 1 refl refl, exact_partition _ ws f 2 refl)
 exact Commutator ws f =
-    cc (exact_e _ ws f refl, exact_residue _ ws f 1 refl refl, exact_residue _ ws f 2 refl refl,
-    exact_partition _ ws f 3 refl)
+    cc (
+      exact_e _ ws f refl,
+      exact_residue _ ws f 1 refl refl,
+      exact_residue _ ws f 2 refl refl,
+      exact_partition _ ws f 3 refl,
+    )
 exact Branch ws f =
     cc (exact_e _ ws f refl, exact_residue _ ws f 1 refl refl, exact_label _ ws f 2 refl)
 exact Product ws f = ap₂ command.Product (exact_partition _ ws f 0 refl) (exact_factor _ ws f 1 refl)

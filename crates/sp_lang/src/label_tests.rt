@@ -8,15 +8,31 @@ fn rows_are_labelled_as_the_convention_says(rt: HostRuntime) -> Result<(), Fail>
     let cases: [(&[u8], Option<LineFault>, Option<LineFault>); 11] = [
         (b"row 2 5", None, Some(LineFault::NotRestricted)),
         (b"row 2 1^5", Some(LineFault::NotRegular), None),
-        (b"row 2 2^2", Some(LineFault::NotRegular), Some(LineFault::NotRestricted)),
+        (
+            b"row 2 2^2",
+            Some(LineFault::NotRegular),
+            Some(LineFault::NotRestricted),
+        ),
         (b"row 2 2,1", None, None),
         (b"row 3 3", None, Some(LineFault::NotRestricted)),
         (b"ladder 2 5", None, Some(LineFault::NotRestricted)),
         (b"ladder 3 1^3", Some(LineFault::NotRegular), None),
-        (b"row 2 1,5", Some(LineFault::BadPartition), Some(LineFault::BadPartition)),
+        (
+            b"row 2 1,5",
+            Some(LineFault::BadPartition),
+            Some(LineFault::BadPartition),
+        ),
         (b"row 65 5", Some(LineFault::BadE), Some(LineFault::BadE)),
-        (b"row 2 1^31", Some(LineFault::DegreePast), Some(LineFault::DegreePast)),
-        (b"ladder 2 33", Some(LineFault::DegreePast), Some(LineFault::DegreePast)),
+        (
+            b"row 2 1^31",
+            Some(LineFault::DegreePast),
+            Some(LineFault::DegreePast),
+        ),
+        (
+            b"ladder 2 33",
+            Some(LineFault::DegreePast),
+            Some(LineFault::DegreePast),
+        ),
     ];
     for (line, regular, restricted) in cases {
         let outcome = read_command(rt.alloc(), Convention::Regular, line).err();
@@ -79,7 +95,10 @@ fn a_convention_is_read_by_its_name(rt: HostRuntime) -> Result<(), Fail> {
     ];
     for (line, convention) in cases {
         let outcome = read_command(rt.alloc(), Convention::Regular, line);
-        assert!(rt; matches!(&outcome, Ok(Command::Convention(_))), "at {line:?}");
+        assert!(rt;
+            matches!(&outcome, Ok(Command::Convention(_))),
+            "at {line:?}"
+        );
         if let Ok(Command::Convention(other)) = &outcome {
             assert!(rt; *other == convention, "at {line:?}");
         }
@@ -91,7 +110,10 @@ fn a_convention_is_read_by_its_name(rt: HostRuntime) -> Result<(), Fail> {
 fn labels_are_conjugates_where_they_are_restricted(rt: HostRuntime) -> Result<(), Fail> {
     let p = Partition::from_parts(&[3, 1])?;
     assert_eq!(rt; Convention::Regular.label(&p), p);
-    assert_eq!(rt; Convention::Restricted.label(&p), Partition::from_parts(&[2, 1, 1])?);
+    assert_eq!(rt;
+        Convention::Restricted.label(&p),
+        Partition::from_parts(&[2, 1, 1])?
+    );
     assert_eq!(rt; Convention::Restricted.name(), b"restricted".as_slice());
     Ok(())
 }

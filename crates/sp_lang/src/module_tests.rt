@@ -8,7 +8,12 @@ fn lines_on_modules_and_their_commands(rt: HostRuntime) -> Result<(), Fail> {
     let cases: [(&[u8], &str, &[u8], [u64; 3]); 18] = [
         (b"restrict 2 0 3,1^2", "restrict", &[3, 1, 1], [2, 0, 0]),
         (b"restrict 64 63 -", "restrict", &[], [64, 63, 0]),
-        (b"commutator 2 0 1 3,1^2", "commutator", &[3, 1, 1], [2, 0, 1]),
+        (
+            b"commutator 2 0 1 3,1^2",
+            "commutator",
+            &[3, 1, 1],
+            [2, 0, 1],
+        ),
         (b"commutator 64 63 62 30", "commutator", &[30], [64, 63, 62]),
         (b"branch 2 0 5", "branch", &[5], [2, 0, 0]),
         (b"branch 3 2 2^2", "branch", &[2, 2], [3, 2, 0]),
