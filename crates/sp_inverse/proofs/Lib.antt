@@ -1,3 +1,3 @@
 pub mod SumSteps
 pub mod Rows
-pub mod RowSoFar
+pub mod Places

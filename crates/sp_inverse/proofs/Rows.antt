@@ -4,6 +4,7 @@ use Rattle.std.proofs.Common.{take, get_or, slice_set, refl, sym, ◌∙◌, ap,
 use Rattle.std.proofs.Common.{◌⊎◌, inl, inr, eq-or-lt_of_le}
 use Rattle.std.proofs.lemmas.List.{append-nil, map-append, map-set, length-append, length-map}
 use Rattle.std.proofs.lemmas.List.{get_or_append_left, get_or-set_same, get_or-set_other}
+use Rattle.std.proofs.lemmas.List.FromFn.{fill_by_all}
 use mathlib.Core.List.{map-map}
 use Rattle.std.specs.Global.{Vec}
 use Rattle.std.specs.List.{AllByRecursion}
@@ -13,13 +14,21 @@ use Rattle.sp_fock_law.specs.Grid.{GridValue, IsHeading, IsGrid, cell_of, row_of
 use Rattle.sp_fock_law.specs.Sparse.{Cells, IsSparse, cell_among, spread}
 use Rattle.sp_fock.specs.Cells.{AreSparse, sparse_grid}
 use Rattle.sp_fock.specs.Rows.{cells_at}
-use Rattle.sp_grid_law.specs.Lines.{IsLine}
+use Rattle.sp_grid_law.specs.Lines.{IsLine, factor_at}
 use Rattle.sp_grid_law.specs.Tables.{tabulated}
 use Rattle.sp_grid_law.proofs.Lines.{cell_proper, line_more, line_zero, lines_grid, lines_sparse, taken_before}
 use Rattle.sp_grid_law.proofs.Lines.{among_is, taken_here, taken_other}
 use Rattle.sp_grid_law.proofs.Tabulated.{tabulated_grid, with_cells}
 use Rattle.sp_inverse.specs.Lines.{line_at, lines_of}
 use Rattle.sp_inverse.specs.Turned.{AreColumns}
+
+-- The cells of a row that aren't 0 are a line of its polynomials.
+pub row_line : (row : List Laurent) (cells : Cells) → spread (length row) cells ≡ row → IsSparse (length row) cells →
+    IsLine (length row) (factor_at row) cells
+row_line row cells value sparse = record {
+  sparse = sparse;
+  row = value ∙ fill_by_all (factor_at row) row (length row) [] refl (λ k lt. refl);
+}
 
 -- A line with its next cell.
 pub line_next : (width : ℕ) (f : ℕ → Laurent) (cells : Cells) → IsLine width f cells → (p : Laurent) → p ≡ f width →

@@ -8,10 +8,10 @@ ghost use Rattle.sp_grid_law.specs.Solved.{inverse_of, solution, solved};
 ghost use Rattle.sp_grid_law.specs.Tables.{delta, HasPowersWithin};
 ghost use Rattle.sp_inverse.specs.Turned.{AreColumns, CanInvert};
 
-use crate::cells::{nonzero_cells, push_line, push_negated};
+use crate::cells::{push_line, push_negated};
 use crate::sums::sum_of_products;
 use crate::{GridFault, transpose};
-use sp_fock::{FockFault, Grid};
+use sp_fock::{FockFault, Grid, sparse_row};
 use sp_laurent::Laurent;
 use std::alloc::{AllocError, Global};
 
@@ -64,7 +64,7 @@ fn columns_of_inverse(
     let mut columns = Vec::new(alloc);
     for column in 0..g.columns().len() {
         match column_of_inverse(alloc, g, column, limit) {
-            Ok(cells) => push_line(&mut columns, nonzero_cells(alloc, cells)?)?,
+            Ok(cells) => push_line(&mut columns, sparse_row(alloc, cells)?)?,
             Err(FockFault::TooLarge) => {
                 return Err(GridFault::TooLarge {
                     at: g.columns()[column],

@@ -9,10 +9,10 @@ ghost use Rattle.sp_grid_law.specs.Products.{IsProductWithin, product, product_c
 ghost use Rattle.sp_grid_law.specs.Lines.{IsLine, line_size, line_sum};
 ghost use Rattle.sp_inverse.specs.Turned.{AreColumns};
 
-use crate::cells::{push_cell, push_line, whole_line};
+use crate::cells::{push_line, whole_line};
 use crate::sums::sum_of_products;
 use crate::{GridFault, transpose};
-use sp_fock::{FockFault, Grid};
+use sp_fock::{FockFault, Grid, push_cell};
 use sp_laurent::Laurent;
 use std::alloc::Global;
 

@@ -1,5 +1,4 @@
-use Rattle.std.proofs.Common.{◌≡◌, ◌+◌, ◌<◌, ◌≤◌, ◌++◌, ◌∷◌, [], ℕ, List, length, sym, ◌∙◌, ap, subst, arith, Err}
-use Rattle.std.specs.Result.{IsErrOf}
+use Rattle.std.proofs.Common.{◌≡◌, ◌+◌, ◌<◌, ◌≤◌, ◌++◌, ◌∷◌, [], ℕ, List, length, sym, ◌∙◌, ap, subst, arith}
 use Rattle.sp_fock.specs.declared.fault.FockFault.TheVariants.{TooLarge}
 use Rattle.std.specs.List.{AllByRecursion}
 use Rattle.sp_defs.specs.Laurent.{Laurent, negate}
@@ -14,6 +13,7 @@ use Rattle.sp_grid_law.proofs.Lines.{cells_size_is, cells_sum_is, products_withi
 use Rattle.sp_laurent.specs.Held.{power_limit}
 use Rattle.sp_inverse.specs.Turned.{CanInvert}
 use Rattle.sp_inverse.specs.Within.{AreCellsWithin}
+use Rattle.sp_inverse.proofs.Places.{place_in, same_fault}
 use Rattle.sp_inverse.proofs.inverse.column_of_inverse.Goals as goal
 
 module _ (g : GridValue) (can : CanInvert g) (column line : ℕ) (behind : column < line) (within : line < length g.lines)
@@ -38,13 +38,6 @@ module _ (g : GridValue) (can : CanInvert g) (column line : ℕ) (behind : colum
       next_solved g can.triangular column line behind within (negate sum)
       (ap negate (e ∙ cells_sum_is g line cells sparse row factors ∙ ap (λ fs. line_sum g fs line) same))
 
-same_fault : {T U E : Type 0} (f e : E) → IsErrOf {T = T} (Err f) e → IsErrOf {T = U} (Err f) e
-same_fault f e is = let same : f ≡ e = cc in ap Err same
-
-in_grid : (g : GridValue) (line : ℕ) (lines : List (List ℕ)) → lines ≡ g.lines → line < length lines →
-    line < length g.lines
-in_grid g line lines e lt = subst (λ ls. line < length ls) e lt
-
 further : (g : GridValue) (column line limit : ℕ) →
     ((i : ℕ) → column < i → i < line → inverse_size g (inverse_of g) i column ≤ limit) →
     inverse_size g (inverse_of g) line column ≤ limit → (i : ℕ) → column < i → i < line + 1 →
@@ -62,15 +55,15 @@ loop-line-init c = (
 pub sum_of_products-requires-clause-within : goal.sum_of_products-requires-clause-within
 sum_of_products-requires-clause-within c =
     near c.args.g.now c.requires.can c.args.column c.loop-line.line (omega (arith, c.loop-line.auto.line))
-    (in_grid c.args.g.now c.loop-line.line c.lines-line-end.result.now c.lines-line-end.ensures.value
-    c.loop-line-test.true)
+    (place_in c.lines-line-end.result.now c.args.g.now.lines c.loop-line.line
+    c.lines-line-end.ensures.value c.loop-line-test.true)
     c.line_cells.result.now c.line_cells.ensures.sparse c.line_cells.ensures.value c.deref.result.now
     (c.deref.ensures.value ∙ c.loop-line.invariant.0)
 
 pub returns-in-Err-clause-too_large : goal.returns-in-Err-clause-too_large
 returns-in-Err-clause-too_large c =
-    let within = in_grid c.args.g.now c.loop-line.line c.lines-line-end.result.now c.lines-line-end.ensures.value
-    c.loop-line-test.true in
+    let within = place_in c.lines-line-end.result.now c.args.g.now.lines c.loop-line.line
+    c.lines-line-end.ensures.value c.loop-line-test.true in
     let sizes = total c.args.g.now c.requires.can c.args.column c.loop-line.line (omega (arith, c.loop-line.auto.line))
     within c.line_cells.result.now c.line_cells.ensures.sparse c.line_cells.ensures.value c.deref.result.now
     (c.deref.ensures.value ∙ c.loop-line.invariant.0) in
@@ -88,7 +81,7 @@ loop-line-preserved c =
     let column = c.args.column in
     let line = c.loop-line.line in
     let behind : column < line = omega (arith, c.loop-line.auto.line) in
-    let within = in_grid g line c.lines-line-end.result.now c.lines-line-end.ensures.value c.loop-line-test.true in
+    let within = place_in c.lines-line-end.result.now g.lines line c.lines-line-end.ensures.value c.loop-line-test.true in
     let same = c.deref.ensures.value ∙ c.loop-line.invariant.0 in (
       c.in_ok-push_negated-in-Ok.ensures
           ∙ ap (λ xs. xs ++ negate c.in-Ok.sum ∷ []) c.loop-line.invariant.0

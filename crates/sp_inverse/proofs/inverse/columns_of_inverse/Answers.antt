@@ -4,7 +4,7 @@ use Rattle.sp_grid_law.specs.Inverses.{IsInverseWithin}
 use Rattle.sp_grid_law.specs.Solved.{inverse_of, solution}
 use Rattle.sp_grid_law.proofs.Columns.{one_further, solved_line}
 use Rattle.sp_inverse.specs.Turned.{AreColumns}
-use Rattle.sp_inverse.proofs.Rows.{columns_more}
+use Rattle.sp_inverse.proofs.Rows.{columns_more, row_line}
 use Rattle.sp_inverse.proofs.inverse.columns_of_inverse.Goals as goal
 
 pub loop-column-preserved : goal.loop-column-preserved
@@ -13,10 +13,12 @@ loop-column-preserved c =
     let column = c.loop-column.column in
     let n = length g.lines in (
       subst (AreColumns (column + 1) n (solution (cell_of g))) (sym c.in_ok-push_line-in-Ok.ensures)
-          (columns_more c.loop-column.columns.items c.in_ok-nonzero_cells-in-Ok.field-0 column n (solution (cell_of g))
+          (columns_more c.loop-column.columns.items c.in_ok-sparse_row-in-Ok.field-0 column n (solution (cell_of g))
           c.loop-column.invariant.0
           (solved_line (cell_of g) column n c.in-Ok.cells.items c.in-Ok.ensures.cells
-          c.in_ok-nonzero_cells-in-Ok.field-0.items c.in_ok-nonzero_cells-in-Ok.ensures)),
+          c.in_ok-sparse_row-in-Ok.field-0.items
+          (row_line c.in-Ok.cells.items c.in_ok-sparse_row-in-Ok.field-0.items c.in_ok-sparse_row-in-Ok.ensures.value
+          c.in_ok-sparse_row-in-Ok.ensures.sparse))),
       one_further (λ k. IsInverseWithin c.args.limit g (inverse_of g) k) column c.loop-column.invariant.1
           c.in-Ok.ensures.within,
     )

@@ -1,4 +1,4 @@
-use Rattle.std.proofs.Common.{◌≡◌, ◌<◌, ℕ, [], false, true, length, get_or, refl, ◌∙◌, ap, subst, List}
+use Rattle.std.proofs.Common.{◌≡◌, ◌<◌, ℕ, [], false, true, length, get_or, refl, ◌∙◌, ap, subst}
 use Rattle.std.proofs.lemmas.List.{get_or_default}
 use Rattle.std.specs.List.{AllByRecursion}
 use Rattle.sp_defs.specs.Within.{PowersWithin}
@@ -7,6 +7,7 @@ use Rattle.sp_fock_law.specs.Sparse.{Cells, IsSparse, spread}
 use Rattle.sp_grid_law.specs.Columns.{IsColumnWithin}
 use Rattle.sp_grid_law.specs.Tables.{transposed}
 use Rattle.sp_grid_law.proofs.Columns.{column_within, line_within, one_further}
+use Rattle.sp_inverse.proofs.Places.{place_in}
 use Rattle.sp_inverse.proofs.powers.column_past.Goals as goal
 
 module _ (most : ℕ) (g t : GridValue) (same : t ≡ transposed g) (column : ℕ) (in_range : column < length g.columns)
@@ -23,9 +24,6 @@ module _ (most : ℕ) (g t : GridValue) (same : t ≡ transposed g) (column : �
 
   bad : IsColumnWithin most g column → AllByRecursion (λ c. PowersWithin most c.1) cells
   bad = line_within most g column in_range cells sparse_turned row_turned
-
-place_in : (xs columns : List (List ℕ)) (k : ℕ) → xs ≡ columns → k < length xs → k < length columns
-place_in xs columns k same lt = subst (λ (ys : List (List ℕ)). k < length ys) same lt
 
 pub returns-then-not-are_within-clause-some : goal.returns-then-not-are_within-clause-some
 returns-then-not-are_within-clause-some c =

@@ -1,33 +1,25 @@
-use Rattle.std.proofs.Common.{◌≡◌, ◌+◌, ◌<◌, ◌≤◌, ℕ, List, length, sym, ◌∙◌, ap, subst, arith, Err}
-use Rattle.std.specs.Result.{IsErrOf}
+use Rattle.std.proofs.Common.{◌+◌, ◌≤◌, sym, ◌∙◌, subst, arith}
 use Rattle.sp_fock.specs.declared.fault.FockFault.TheVariants.{TooLarge}
-use Rattle.sp_fock_law.specs.Grid.{GridValue}
 use Rattle.sp_grid_law.specs.Lines.{IsLine, line_size, line_sum}
 use Rattle.sp_grid_law.proofs.Columns.{one_further}
 use Rattle.sp_grid_law.proofs.Lines.{cells_size_is, cells_sum_is, products_within}
 use Rattle.sp_laurent.specs.Held.{power_limit}
+use Rattle.sp_inverse.proofs.Places.{place_in, same_fault}
 use Rattle.sp_inverse.proofs.Rows.{line_next}
 use Rattle.sp_inverse.proofs.product.column_of_product.Goals as goal
 
-same_fault : {T U E : Type 0} (f e : E) → IsErrOf {T = T} (Err f) e → IsErrOf {T = U} (Err f) e
-same_fault f e is = let same : f ≡ e = cc in ap Err same
-
-in_grid : (g : GridValue) (line : ℕ) (lines : List (List ℕ)) → lines ≡ g.lines → line < length lines →
-    line < length g.lines
-in_grid g line lines e lt = subst (λ ls. line < length ls) e lt
-
 pub sum_of_products-requires-clause-within : goal.sum_of_products-requires-clause-within
 sum_of_products-requires-clause-within c =
-    let within = in_grid c.args.a.now c.loop-line.line c.lines-line-end.result.now c.lines-line-end.ensures.value
-    c.loop-line-test.true in
+    let within = place_in c.lines-line-end.result.now c.args.a.now.lines c.loop-line.line
+    c.lines-line-end.ensures.value c.loop-line-test.true in
     products_within c.args.a.now c.loop-line.line c.line_cells.result.now c.line_cells.ensures.sparse
     c.line_cells.ensures.value 500000000 500000000 power_limit (omega arith)
     (λ k lt. c.requires.cells c.loop-line.line k within lt) c.args.factors.now c.requires.factors
 
 pub returns-in-Err-clause-too_large : goal.returns-in-Err-clause-too_large
 returns-in-Err-clause-too_large c =
-    let within = in_grid c.args.a.now c.loop-line.line c.lines-line-end.result.now c.lines-line-end.ensures.value
-    c.loop-line-test.true in
+    let within = place_in c.lines-line-end.result.now c.args.a.now.lines c.loop-line.line
+    c.lines-line-end.ensures.value c.loop-line-test.true in
     λ is_large all_within.
     absurd (omega (
       arith,

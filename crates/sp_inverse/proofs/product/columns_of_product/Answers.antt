@@ -1,14 +1,12 @@
-use Rattle.std.proofs.Common.{◌≡◌, ◌+◌, ◌<◌, ◌≤◌, ℕ, List, [], length, get_or, sym, ◌∙◌, ap, subst, Err}
+use Rattle.std.proofs.Common.{◌≡◌, ◌+◌, ◌≤◌, [], length, get_or, sym, ◌∙◌, ap, subst, Err}
 use Rattle.std.proofs.lemmas.List.{get_or_default}
 use Rattle.sp_fock_law.specs.Grid.{GridValue, row_of}
 use Rattle.sp_grid_law.specs.Products.{IsProductWithin, product_cell}
 use Rattle.sp_grid_law.proofs.Columns.{factors_within, one_further, product_line, product_total}
 use Rattle.sp_inverse.specs.Turned.{AreColumns}
+use Rattle.sp_inverse.proofs.Places.{place_in}
 use Rattle.sp_inverse.proofs.Rows.{columns_more}
 use Rattle.sp_inverse.proofs.product.columns_of_product.Goals as goal
-
-place_in : (xs columns : List (List ℕ)) (k : ℕ) → xs ≡ columns → k < length xs → k < length columns
-place_in xs columns k same lt = subst (λ (ys : List (List ℕ)). k < length ys) same lt
 
 pub column_of_product-requires-clause-factors : goal.column_of_product-requires-clause-factors
 column_of_product-requires-clause-factors c =
