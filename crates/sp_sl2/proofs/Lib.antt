@@ -3,3 +3,4 @@ pub mod Gathered
 pub mod Brought
 pub mod Found
 pub mod Weights
+pub mod Powers

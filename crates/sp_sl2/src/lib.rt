@@ -8,7 +8,7 @@ mod restriction;
 mod shares;
 mod targets;
 
-pub use law::commutator_law;
+pub use law::{commutator_law, divided_power_law, restriction_law};
 pub use relation::commutator;
 pub use restriction::restrict;
 

@@ -23,7 +23,7 @@ use Rattle.sp_sl2_law.proofs.Tilts.{one_if, turn, tilt, tilt-alike, tilt-change,
 use Rattle.sp_sl2_law.proofs.ByRows.{taken_exponent, taken, given, cond-alike, restriction_rows, induction_rows}
 
 -- Two numbers are equal or not.
-same_or_other : (m n : ℕ) → (m ≡ n) ⊎ (m ≢ n)
+pub same_or_other : (m n : ℕ) → (m ≡ n) ⊎ (m ≢ n)
 same_or_other m n = settle (le_or_lt m n) (le_or_lt n m)
   where
     settle : (m ≤ n) ⊎ (n < m) → (n ≤ m) ⊎ (m < n) → (m ≡ n) ⊎ (m ≢ n)

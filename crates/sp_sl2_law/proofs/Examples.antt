@@ -8,6 +8,7 @@ use Rattle.sp_defs.specs.Power.{Vector, is_move, exponent, sources, divided_powe
 use Rattle.sp_sl2_law.specs.Restriction.{restriction_exponent, enlarged, restriction}
 use Rattle.sp_sl2_law.specs.Balanced.{balanced_natural, balanced}
 use Rattle.sp_sl2_law.specs.Commutator.{commutator}
+use Rattle.sp_sl2_law.specs.Repeated.{balanced_factorial}
 
 -- The coefficients of a vector at all partitions of n, ascending.
 unfoldable listed : ℕ → Vector → List Laurent
@@ -45,3 +46,9 @@ commutators : commutator 2 0 0 (unit (3 ∷ 1 ∷ 1 ∷ [])) (3 ∷ 1 ∷ 1 ∷ 
 unfolding commutator restriction enlarged is_move restriction_exponent divided_power sources exponent
     partitions partitions_within nodes_from sum_over times products plus negate collect add_term int_sum
 commutators = refl
+
+-- [3]! = v^-3 + 2 v^-1 + 2 v + v^3
+factorial_three : balanced_factorial 3 ≡
+    (negsuc 2, pos 1) ∷ (negsuc 0, pos 2) ∷ (pos 1, pos 2) ∷ (pos 3, pos 1) ∷ []
+unfolding balanced_factorial balanced_natural sum_over times products plus collect add_term
+factorial_three = refl

@@ -10,4 +10,10 @@ pub mod Stairs
 pub mod Relation
 pub mod Descent
 pub mod Targets
+pub mod Enlarged
+pub mod Bounds
+pub mod Contents
+pub mod Longer
+pub mod LastMoved
+pub mod Repeated
 mod Examples

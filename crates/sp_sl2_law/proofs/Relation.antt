@@ -29,7 +29,7 @@ use Rattle.sp_sl2_law.proofs.Descent.{lean_next, lean_first}
 use Rattle.sp_sl2_law.proofs.Stairs.{climb, climb-next, step, climb-balanced, total-range_last}
 
 -- Two tests that are never passed together leave nothing.
-never_both : (a b : Bool) (x : ℤ) → (a ≡ true → b ≡ true → ⊥) → cond a (cond b x (pos 0)) (pos 0) ≡ pos 0
+pub never_both : (a b : Bool) (x : ℤ) → (a ≡ true → b ≡ true → ⊥) → cond a (cond b x (pos 0)) (pos 0) ≡ pos 0
 never_both true true x h = absurd (h refl refl)
 never_both true false x h = refl
 never_both false b x h = refl

@@ -39,7 +39,7 @@ total-range_last f a (suc n) =
     turned x y u v h = omega (arith, ints)
 
 -- A range that begins one later.
-total-range_later : (f : ℕ → ℤ) (a n : ℕ) →
+pub total-range_later : (f : ℕ → ℤ) (a n : ℕ) →
     total (range_with_len (a + 1) n) f ≡ total (range_with_len a n) (λ m. f (m + 1))
 unfolding total
 total-range_later f a zero = refl
@@ -91,7 +91,8 @@ climb-next f (negsuc (suc n)) (negsuc m) h =
 abbrev pub step : ℤ → ℤ → ℤ
 step d u = ((u +ℤ u) +ℤ pos 1) -ℤ d
 
-coefficient-natural : (k : ℕ) (p : Laurent) (z : ℤ) →
+-- A product with a balanced integer adds up the shifted coefficients.
+pub coefficient-natural : (k : ℕ) (p : Laurent) (z : ℤ) →
     coefficient (times (balanced_natural k) p) z ≡ total (range_with_len 0 k)
     (λ m. coefficient p (z -ℤ (pos (2 * m + 1) -ℤ pos k)))
 unfolding balanced_natural

@@ -94,7 +94,7 @@ entry_there ((kappa, p) ∷ es) x ne = by_order (compare kappa x) refl ne (entry
     by_order Equal is n rest = (p, inl (ap (λ y. (y, p)) (sym (same_lists kappa x is))))
 
 -- All of a list of polynomials are 0, or one isn't.
-zeros_or_some : (xs : List (List ℕ)) (w : List ℕ → Laurent) →
+pub zeros_or_some : (xs : List (List ℕ)) (w : List ℕ → Laurent) →
     AllByRecursion (λ x. w x ≡ []) xs ⊎ ((x : List ℕ) × Occurs x xs × (w x ≢ []))
 zeros_or_some [] w = inl tt
 zeros_or_some (x ∷ xs) w = settle (nil_or_not (w x)) (zeros_or_some xs w)

@@ -1,9 +1,11 @@
 -- The sums at the targets are the restriction.
-use Rattle.std.proofs.Common.{rules, ◌≤◌, sym, ◌∙◌, subst, arith}
+use Rattle.std.proofs.Common.{rules, ◌+◌, ◌-◌, ◌≤◌, sym, ◌∙◌, subst, arith}
 use Rattle.std.specs.List.{AllByRecursion}
-use Rattle.sp_defs.specs.Power.{vector_of}
+use Rattle.sp_defs.specs.Power.{vector_of, FockVector, IsVector}
+use Rattle.sp_power.specs.Arrivals.{AllWithin}
 use Rattle.sp_sl2_law.specs.Restriction.{restricted_size}
 use Rattle.sp_sl2.specs.Targets.{HasRoom}
+use Rattle.sp_sl2.proofs.Powers.{restricted_entries_vector, restricted_entries_within}
 use Rattle.sp_sl2.proofs.Weights.{restricted_held, restricted_whole, weight_within, weight_past}
 use Rattle.sp_sl2.proofs.restriction.restrict.Goals as goal
 
@@ -41,3 +43,14 @@ returns-clause-fits c =
     (subst (AllByRecursion
     (λ mu. restricted_size c.args.e c.args.i (vector_of c.args.v.now.entries) mu ≤ c.args.limit)) c.deref.ensures.value
     c.in_ok-sums.ensures.fits)
+
+pub returns-clause-vector : goal.returns-clause-vector
+returns-clause-vector c =
+    subst (λ (w : FockVector). IsVector (c.args.v.now.degree - 1) w.entries) (sym (returns-clause-ok c))
+    (restricted_entries_vector c.args.e c.args.i c.args.v.now.degree (vector_of c.args.v.now.entries))
+
+pub returns-clause-powers : goal.returns-clause-powers
+returns-clause-powers c =
+    λ d within. subst (λ (w : FockVector). AllWithin (c.args.v.now.degree + 1 + d) w.entries)
+    (sym (returns-clause-ok c))
+    (restricted_entries_within c.args.e c.args.i c.args.v.now.degree d c.args.v.now.entries within)
