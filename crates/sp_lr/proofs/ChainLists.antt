@@ -119,7 +119,7 @@ chains_listed before last spare (n ∷ ns) (shape ∷ shapes) h (next, more) =
     (chains_listed last shape 0 ns shapes next.strip.partition more)))
 
 -- chains with a later first member are later
-later_chain : (x y : List ℕ) (xs ys : List (List ℕ)) → order x y ≡ Greater → IsLaterChain (x ∷ xs) (y ∷ ys)
+pub later_chain : (x y : List ℕ) (xs ys : List (List ℕ)) → order x y ≡ Greater → IsLaterChain (x ∷ xs) (y ∷ ys)
 later_chain x y xs ys h = ap (λ o. ordering_then o (slice_cmp order xs ys)) h
 
 -- and so are chains whose rest is later

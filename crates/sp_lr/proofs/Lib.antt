@@ -4,6 +4,9 @@ pub mod Rounds
 pub mod Tails
 pub mod RowsOf
 pub mod ChainLists
+pub mod Tableaux
+pub mod ChainsOver
 pub mod Continuing
 pub mod Groups
 pub mod Totals
+pub mod ProductPairs

@@ -2,6 +2,7 @@
 ghost use Rattle.std.specs.Prelude.{◌≡◌, ◌+◌, ◌≤◌, ◌<◌, ◌++◌, ◌∷◌, [], IfOk, OnOk, Err, length, map, sum};
 ghost use Rattle.sp_defs.specs.Partition.{degree as degree_of, part as part_of};
 ghost use Rattle.sp_lr_defs.specs.Filling.{ListsEach, IsChain};
+ghost use Rattle.sp_lr_defs.specs.Listing.{chains_over};
 ghost use Rattle.sp_lr.specs.Strips.{behind, chains, IsRoom};
 ghost use Rattle.sp_lr.specs.Results.{AreMore, chains_in};
 
@@ -17,7 +18,11 @@ pub struct Filling {
     pub chain: Items<Partition>,
 }
 
-/// All fillings over `lambda` with content `mu`, descending by their chains.
+/// All fillings over `lambda` with content `mu`, descending by their chains. (Macdonald, Symmetric Functions and Hall
+/// Polynomials, I.9)
+///
+/// The degrees together are at most 32. `TooMany` only where there are more than `most`, and a result only where there
+/// are not.
 pub fn fillings(
     alloc: Global,
     lambda: &Partition,
@@ -28,6 +33,9 @@ pub fn fillings(
     ensures lists { IfOk result (λ found. ListsEach (IsChain lambda.now mu.now) (chains_in found.items)) }
     ensures few { IfOk result (λ found. length found.items ≤ most) }
     ensures many { (result ≡ Err LrFault.TooMany) → AreMore (IsChain lambda.now mu.now) most }
+    ensures listed { IfOk result (λ found. chains_in found.items ≡ chains_over lambda.now mu.now) }
+    ensures within { OnOk result (length (chains_over lambda.now mu.now) ≤ most) }
+    ensures past { (result ≡ Err LrFault.TooMany) → most < length (chains_over lambda.now mu.now) }
 {
     // the proof needs what the type keeps: a partition of at most the capacity
     prove!(lambda.degree() <= CAPACITY);

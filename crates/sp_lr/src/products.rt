@@ -4,6 +4,7 @@ ghost use Rattle.std.specs.List.Sorted.{IsSorted};
 ghost use Rattle.std.specs.List.{AllByRecursion};
 ghost use Rattle.sp_defs.specs.Partition.{degree as degree_of, order};
 ghost use Rattle.sp_lr_defs.specs.Filling.{IsChain};
+ghost use Rattle.sp_lr_defs.specs.Listing.{chains_over, product_pairs};
 ghost use Rattle.sp_lr_defs.specs.Strip.{end_from};
 ghost use Rattle.sp_lr.specs.Strips.{chains, IsRoom};
 ghost use Rattle.sp_lr.specs.Results.{AreMore, IsProduct, DescendingPairs, spread, IsFirst};
@@ -14,7 +15,10 @@ use sp_partition::{CAPACITY, Partition};
 use std::alloc::{AllocError, Global};
 
 /// The partitions that have a filling over `lambda` with content `mu`, descending, each with the number of its
-/// fillings.
+/// fillings: the product of two Schur functions. (Macdonald, Symmetric Functions and Hall Polynomials, I.9)
+///
+/// The degrees together are at most 32. `TooMany` only where there are more than `most` fillings of all partitions, and
+/// a result only where there are not.
 pub fn product(
     alloc: Global,
     lambda: &Partition,
@@ -25,6 +29,9 @@ pub fn product(
     ensures pairs { IfOk result (λ pairs. IsProduct lambda.now mu.now pairs.items) }
     ensures few { IfOk result (λ pairs. sum (map (λ p. p.1) pairs.items) ≤ most) }
     ensures many { (result ≡ Err LrFault.TooMany) → AreMore (IsChain lambda.now mu.now) most }
+    ensures listed { IfOk result (λ pairs. pairs.items ≡ product_pairs lambda.now mu.now) }
+    ensures within { OnOk result (length (chains_over lambda.now mu.now) ≤ most) }
+    ensures past { (result ≡ Err LrFault.TooMany) → most < length (chains_over lambda.now mu.now) }
 {
     // the proof needs what the type keeps: a partition of at most the capacity
     prove!(lambda.degree() <= CAPACITY);

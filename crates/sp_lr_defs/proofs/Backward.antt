@@ -1,4 +1,5 @@
--- A chain of strips, each covered by the one before, is the chain of a filling.
+-- A chain of horizontal strips is the chain of a filling where its word is a lattice word, and so where each strip is
+-- covered by the one before.
 use Rattle.std.proofs.Common.{◌≡◌, ℕ, zero, suc, ◌+◌, ◌-◌, ◌<◌, ◌≤◌, List, [], ◌∷◌, length, map}
 use Rattle.std.proofs.Common.{slice_index, slice_index_or, nat_eq, count_by, refl, sym, ◌∙◌, ap, take}
 use Rattle.std.proofs.Common.{subst, arith, add-one, ◌⊎◌, inl, inr}
@@ -10,12 +11,14 @@ use Rattle.sp_lists.proofs.Places.{all_at}
 use Rattle.sp_shapes.proofs.Diagram.{same_rows}
 use Rattle.sp_lr_defs.specs.Filling.{IsFilling, IsOutside, IsChain, IsChainTo, row, number_in, member, word, IsLattice}
 use Rattle.sp_lr_defs.specs.Strip.{first, gained, Covers, IsStrip, AreStrips, IsStripChain, end_from}
+use Rattle.sp_lr_defs.specs.Listing.{after_strips}
 use Rattle.sp_lr_defs.proofs.Sorted.{Rises, rises_next, count_to, place_counted, counted_place}
 use Rattle.sp_lr_defs.proofs.Sums.{first-zeros}
 use Rattle.sp_lr_defs.proofs.Trimmed.{mapped_at, mapped_past, past_end, mapped_is}
 use Rattle.sp_lr_defs.proofs.Words.{Counted, word-all, fronts_hold}
 use Rattle.sp_lr_defs.proofs.Forward.{part_at, row_at, number_at, member_at, member_partition, reach}
 use Rattle.sp_lr_defs.proofs.Strips.{degree-gained, times}
+use Rattle.sp_lr_defs.proofs.Tableaux.{AreTableau, tableau_of_strips, tableau_length, strip_at}
 use Rattle.sp_lr_defs.proofs.Built.{built, Grows, built_numbers, built_rises, built-length, built-count, built-times}
 use Rattle.sp_lr_defs.proofs.Built.{built-none}
 
@@ -24,22 +27,10 @@ use Rattle.sp_lr_defs.proofs.Built.{built-none}
 -- there is a partition for each size
 pub strips_length : (before last : List ℕ) (spare : ℕ) (ns : List ℕ) (shapes : List (List ℕ)) →
     AreStrips before last spare ns shapes → length shapes ≡ length ns
-strips_length before last spare [] [] s = refl
-strips_length before last spare [] (shape ∷ shapes) s = absurd s
-strips_length before last spare (n ∷ ns) [] s = absurd s
-strips_length before last spare (n ∷ ns) (shape ∷ shapes) (s, more) = ap suc (strips_length last shape 0 ns shapes more)
+strips_length before last spare ns shapes s =
+    tableau_length last ns shapes (tableau_of_strips before last spare ns shapes s)
 
--- the strip at a place
-pub strip_at : (before last : List ℕ) (spare : ℕ) (ns : List ℕ) (shapes : List (List ℕ)) →
-    AreStrips before last spare ns shapes → (k : ℕ) → k < length ns →
-    IsStrip (slice_index_or (last ∷ shapes) k []) (slice_index_or shapes k []) (slice_index ns k)
-strip_at before last spare [] shapes s k lt = absurd (omega arith)
-strip_at before last spare (n ∷ ns) [] s k lt = absurd s
-strip_at before last spare (n ∷ ns) (shape ∷ shapes) (s, more) zero lt = s.strip
-strip_at before last spare (n ∷ ns) (shape ∷ shapes) (s, more) (suc k) lt =
-    strip_at last shape 0 ns shapes more k (omega arith)
-
--- it covers the next
+-- each strip covers the next
 pub covers_at : (before last : List ℕ) (spare : ℕ) (ns : List ℕ) (shapes : List (List ℕ)) →
     AreStrips before last spare ns shapes → (k : ℕ) → suc k < length ns →
     Covers 0 (gained (slice_index_or (last ∷ shapes) k []) (slice_index_or shapes k []))
@@ -60,12 +51,16 @@ end_at inner (shape ∷ shapes) = end_at shape shapes
 
 -- ---- the filling
 
--- what is known of a chain of strips, by places: its members are partitions, and so on
+-- what is known of a chain of horizontal strips, by places: its members are partitions, and so on
 pub record AreMembers (mu : List ℕ) (shape : ℕ → List ℕ) : Type 0 where
   pub partitions : (k : ℕ) → k ≤ length mu → IsPartition (shape k)
   pub strips : (k : ℕ) → k < length mu → IsStrip (shape k) (shape (suc k)) (slice_index mu k)
-  pub covered : (k : ℕ) → suc k < length mu →
-      Covers 0 (gained (shape k) (shape (suc k))) (gained (shape (suc k)) (shape (suc (suc k))))
+
+-- each strip covers the next, by places
+abbrev pub AreCovered : List ℕ → (ℕ → List ℕ) → Type 0
+AreCovered mu shape =
+    (k : ℕ) → suc k < length mu →
+    Covers 0 (gained (shape k) (shape (suc k))) (gained (shape (suc k)) (shape (suc (suc k))))
 
 -- how far row i reaches in member k
 abbrev pub reached : (ℕ → List ℕ) → ℕ → ℕ → ℕ
@@ -168,7 +163,8 @@ filled_times mu shape h k lt i =
     ap (count_by (nat_eq (k + 1))) (filled_at mu shape h i)
     ∙ built-times (reached shape i) (length mu) (grows mu shape h i) k lt
 
-filled_none : (mu : List ℕ) (shape : ℕ → List ℕ) → AreMembers mu shape → (k : ℕ) → length mu ≤ k →
+-- no number is greater than the number of sizes
+pub filled_none : (mu : List ℕ) (shape : ℕ → List ℕ) → AreMembers mu shape → (k : ℕ) → length mu ≤ k →
     Counted (nat_eq (k + 1)) (filled mu shape) (λ _. 0)
 filled_none mu shape h k le i =
     ap (count_by (nat_eq (k + 1))) (filled_at mu shape h i) ∙ built-none (reached shape i) (length mu) k le
@@ -250,10 +246,11 @@ content_is mu shape h k lt =
           (h.strips k lt).total,
         )
 
--- the word is a lattice word
-lattice_is : (mu : List ℕ) (shape : ℕ → List ℕ) → AreMembers mu shape → IsLattice (word (filled mu shape))
-lattice_is mu shape h n zero lo = absurd (omega arith)
-lattice_is mu shape h n (suc k) lo = settle (le_or_lt (length mu) (suc k))
+-- where each strip covers the next the word is a lattice word
+lattice_is : (mu : List ℕ) (shape : ℕ → List ℕ) → AreMembers mu shape → AreCovered mu shape →
+    IsLattice (word (filled mu shape))
+lattice_is mu shape h covered n zero lo = absurd (omega arith)
+lattice_is mu shape h covered n (suc k) lo = settle (le_or_lt (length mu) (suc k))
   where
     zeros : (i : ℕ) (f : ℕ → ℕ) → 0 + first (suc i) (λ _. 0) ≤ 0 + first i f
     zeros i f = omega (arith, first-zeros (suc i) (λ _. 0) (λ _. refl))
@@ -275,13 +272,13 @@ lattice_is mu shape h n (suc k) lo = settle (le_or_lt (length mu) (suc k))
               (gained (shape (suc k)) (shape (suc (suc k)))) 0 0
               (subst (λ j. Counted (nat_eq j) (filled mu shape) (gained (shape k) (shape (suc k)))) (add-one k)
               (filled_times mu shape h k (omega arith)))
-              (filled_times mu shape h (suc k) lt) (λ i. omega (arith, h.covered k lt i)) n,
+              (filled_times mu shape h (suc k) lt) (λ i. omega (arith, covered k lt i)) n,
         )
 
--- The rows that were made are a filling.
+-- The rows that were made are a filling where their word is a lattice word.
 pub filling_of_members : (mu : List ℕ) (shape : ℕ → List ℕ) → AreMembers mu shape →
-    IsFilling (shape 0) mu (shape (length mu)) (filled mu shape)
-filling_of_members mu shape h = record {
+    IsLattice (word (filled mu shape)) → IsFilling (shape 0) mu (shape (length mu)) (filled mu shape)
+filling_of_members mu shape h lattice = record {
   outer = h.partitions (length mu) (omega arith);
   height = height_is mu shape;
   widths = widths;
@@ -290,7 +287,7 @@ filling_of_members mu shape h = record {
   along_rows = along_rows;
   down_columns = down_columns;
   content = content;
-  lattice = lattice_is mu shape h;
+  lattice = lattice;
 }
   where
     widths : (r : ℕ) → 1 ≤ r →
@@ -339,47 +336,62 @@ filling_of_members mu shape h = record {
         ∙ sym (part_at mu k)
 
 -- its chain has these members
-pub chain_of_members : (mu : List ℕ) (shape : ℕ → List ℕ) → AreMembers mu shape → (k : ℕ) → k ≤ length mu →
-    member (shape 0) (filled mu shape) k ≡ shape k
-chain_of_members mu shape h k le =
+pub chain_of_members : (mu : List ℕ) (shape : ℕ → List ℕ) → AreMembers mu shape →
+    IsLattice (word (filled mu shape)) → (k : ℕ) → k ≤ length mu → member (shape 0) (filled mu shape) k ≡ shape k
+chain_of_members mu shape h lattice k le =
     same_rows (member (shape 0) (filled mu shape) k) (shape k)
     (member_partition (shape 0) mu (shape (length mu)) (filled mu shape) (h.partitions 0 (omega arith))
-    (filling_of_members mu shape h) k)
+    (filling_of_members mu shape h lattice) k)
     (h.partitions k le)
     (λ i. member_at (shape 0) mu (shape (length mu)) (filled mu shape) (h.partitions 0 (omega arith))
-    (filling_of_members mu shape h) k i ∙ filled_count mu shape h i k le)
+    (filling_of_members mu shape h lattice) k i ∙ filled_count mu shape h i k le)
 
 -- ---- a chain of strips
 
-members_of : (lambda mu : List ℕ) (shapes : List (List ℕ)) → IsPartition lambda →
-    AreStrips lambda lambda (part mu 1) mu shapes → AreMembers mu (λ k. slice_index_or (lambda ∷ shapes) k [])
-members_of lambda mu shapes hl s = record {
-  partitions = partitions;
-  strips = strip_at lambda lambda (part mu 1) mu shapes s;
-  covered = covers_at lambda lambda (part mu 1) mu shapes s;
-}
+-- its members, by places
+pub members_of : (lambda mu : List ℕ) (shapes : List (List ℕ)) → IsPartition lambda → AreTableau lambda mu shapes →
+    AreMembers mu (after_strips (lambda ∷ shapes))
+members_of lambda mu shapes hl s =
+    record { partitions = partitions; strips = strip_at lambda mu shapes s }
   where
-    partitions : (k : ℕ) → k ≤ length mu → IsPartition (slice_index_or (lambda ∷ shapes) k [])
+    partitions : (k : ℕ) → k ≤ length mu → IsPartition (after_strips (lambda ∷ shapes) k)
     partitions zero le = hl
-    partitions (suc k) le = (strip_at lambda lambda (part mu 1) mu shapes s k (omega arith)).partition
+    partitions (suc k) le = (strip_at lambda mu shapes s k (omega arith)).partition
 
--- A chain of strips is the chain of a filling of its last member.
-pub filling_of_strips : (lambda mu : List ℕ) (shapes : List (List ℕ)) → IsPartition lambda →
-    AreStrips lambda lambda (part mu 1) mu shapes → IsChainTo lambda mu (end_from lambda shapes) (lambda ∷ shapes)
-filling_of_strips lambda mu shapes hl s =
-    let shape : ℕ → List ℕ = λ k. slice_index_or (lambda ∷ shapes) k [] in
-    let size : length shapes ≡ length mu = strips_length lambda lambda (part mu 1) mu shapes s in
+-- A chain of horizontal strips whose word is a lattice word is the chain of a filling of its last member.
+pub filling_of_tableau : (lambda mu : List ℕ) (shapes : List (List ℕ)) → IsPartition lambda →
+    AreTableau lambda mu shapes → IsLattice (word (filled mu (after_strips (lambda ∷ shapes)))) →
+    IsChainTo lambda mu (end_from lambda shapes) (lambda ∷ shapes)
+filling_of_tableau lambda mu shapes hl s lattice =
+    let shape : ℕ → List ℕ = after_strips (lambda ∷ shapes) in
+    let size : length shapes ≡ length mu = tableau_length lambda mu shapes s in
     let ends : shape (length mu) ≡ end_from lambda shapes = ap shape (sym size) ∙ end_at lambda shapes in
     let h : AreMembers mu shape = members_of lambda mu shapes hl s in
     let count : length mu + 1 ≡ length (lambda ∷ shapes) = omega arith in (
       filled mu shape,
       (
-        subst (λ nu. IsFilling lambda mu nu (filled mu shape)) ends (filling_of_members mu shape h),
+        subst (λ nu. IsFilling lambda mu nu (filled mu shape)) ends (filling_of_members mu shape h lattice),
         ap (λ n. map (member lambda (filled mu shape)) (range_with_len 0 n)) count
             ∙ mapped_is (member lambda (filled mu shape)) [] 0 (lambda ∷ shapes) (λ i lt.
-            ap (member lambda (filled mu shape)) (omega arith) ∙ chain_of_members mu shape h i (omega arith)),
+            ap (member lambda (filled mu shape)) (omega arith)
+            ∙ chain_of_members mu shape h lattice i (omega arith)),
       ),
     )
+
+-- The word of a chain of strips, each covered by the one before, is a lattice word.
+pub lattice_of_strips : (lambda mu : List ℕ) (shapes : List (List ℕ)) → IsPartition lambda →
+    AreStrips lambda lambda (part mu 1) mu shapes → IsLattice (word (filled mu (after_strips (lambda ∷ shapes))))
+lattice_of_strips lambda mu shapes hl s =
+    lattice_is mu (after_strips (lambda ∷ shapes))
+    (members_of lambda mu shapes hl (tableau_of_strips lambda lambda (part mu 1) mu shapes s))
+    (covers_at lambda lambda (part mu 1) mu shapes s)
+
+-- So it is the chain of a filling of its last member.
+pub filling_of_strips : (lambda mu : List ℕ) (shapes : List (List ℕ)) → IsPartition lambda →
+    AreStrips lambda lambda (part mu 1) mu shapes → IsChainTo lambda mu (end_from lambda shapes) (lambda ∷ shapes)
+filling_of_strips lambda mu shapes hl s =
+    filling_of_tableau lambda mu shapes hl (tableau_of_strips lambda lambda (part mu 1) mu shapes s)
+    (lattice_of_strips lambda mu shapes hl s)
 
 -- A chain of strips is the chain of a filling.
 pub filling_of_chain : (lambda mu : List ℕ) (chain : List (List ℕ)) → IsPartition lambda →

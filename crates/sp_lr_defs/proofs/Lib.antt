@@ -5,6 +5,8 @@ pub mod Trimmed
 pub mod Forward
 pub mod Strips
 pub mod Built
+pub mod Tableaux
 pub mod Backward
+pub mod ChainRows
 pub mod Extending
 pub mod Unique

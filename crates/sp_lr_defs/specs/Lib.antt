@@ -1,2 +1,3 @@
 pub mod Filling
 pub mod Strip
+pub mod Listing
