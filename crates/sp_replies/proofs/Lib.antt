@@ -4,3 +4,5 @@ pub mod Finding
 pub mod Images
 pub mod Induced
 pub mod Ranking
+pub mod Restricted
+pub mod BranchedRows

@@ -7,4 +7,5 @@ pub mod Abacuses
 pub mod Signatures
 pub mod Vectors
 pub mod Rows
+pub mod Restrictions
 pub mod Modules

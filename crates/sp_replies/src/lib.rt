@@ -8,6 +8,9 @@ mod faults;
 mod modules;
 mod orders;
 mod refusals;
+#[cfg(test)]
+mod restriction_tests;
+mod restrictions;
 mod rows;
 mod signatures;
 #[cfg(test)]
@@ -21,6 +24,7 @@ pub use faults::put_fault;
 pub use modules::{put_dim, put_jantzen};
 pub use orders::{dominance_law, put_conjugate, put_dominance, put_partitions, put_regulars};
 pub use refusals::{Refusal, put_named, put_refusal};
+pub use restrictions::{put_branch, put_commutator, put_restriction};
 pub use rows::put_row;
 pub use signatures::{put_good, put_image, put_path};
 pub use vectors::{put_induced, put_ladder_vector, put_ladders};

@@ -34,8 +34,8 @@ pub fn put_row(
     }
 }
 
-// The rank of an e-regular partition of the context's degree.
-fn rank_of(ctx: &Ctx, mu: &Partition) -> usize
+/// The rank of an e-regular partition of the context's degree.
+pub(crate) fn rank_of(ctx: &Ctx, mu: &Partition) -> usize
     requires partition { IsPartition mu.now }
     requires degree { degree_of mu.now ≡ ctx.now.degree }
     requires regular { is_regular ctx.now.e mu.now ≡ true }

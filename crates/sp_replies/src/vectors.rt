@@ -40,7 +40,8 @@ pub fn put_induced(
     }
 }
 
-fn unit_vector(alloc: Global, p: &Partition) -> Result<Vector, AllocError>
+/// The vector with 1 at one partition.
+pub(crate) fn unit_vector(alloc: Global, p: &Partition) -> Result<Vector, AllocError>
     ensures vector { IfOk result (λ v. v ≡ fock_vector (degree_of p.now) (unit p.now)) }
     ensures partition { IsPartition p.now }
 {

@@ -1,0 +1,16 @@
+use Rattle.std.proofs.Common.{◌++◌, ◌∙◌, ap}
+use Rattle.std.proofs.lemmas.Result.{on_ok_weaker}
+use Rattle.sp_replies.proofs.Induced.{powers_small}
+use Rattle.sp_replies.proofs.Restricted.{restricted}
+use Rattle.sp_replies.proofs.restrictions.put_restriction.Goals as goal
+
+pub put_restricted-requires-clause-powers : goal.put_restricted-requires-clause-powers
+put_restricted-requires-clause-powers c =
+    powers_small c.args.p.now c.in_ok-one.one c.in_ok-one.ensures.partition c.in_ok-one.ensures.vector
+
+pub returns : goal.returns
+returns c =
+    on_ok_weaker c.put_restricted.result
+    (λ is. is ∙ ap (λ text. c.args.out.now.items ++ text)
+    (restricted c.args.p.now c.in_ok-one.one c.in_ok-one.ensures.partition c.in_ok-one.ensures.vector c.args.e c.args.i
+    c.args.limit c.requires.least)) c.put_restricted.ensures
