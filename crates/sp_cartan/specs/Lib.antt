@@ -1,0 +1,4 @@
+pub mod Square
+pub mod Refusals
+pub mod Cartan
+pub mod Characters
