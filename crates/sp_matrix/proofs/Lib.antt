@@ -9,3 +9,7 @@ pub mod Triangular
 pub mod Whole
 pub mod Folding
 pub mod Lined
+pub mod Ascents
+pub mod Conjugating
+pub mod Turning
+pub mod TurnedGrids

@@ -1,6 +1,6 @@
 -- Rows that are walked from their ends: what stands at a line, and what stays true for the lines after it.
 use Rattle.std.proofs.Common.{◌≡◌, ◌≢◌, ℕ, zero, suc, ◌+◌, ◌-◌, ◌<◌, List, [], ◌∷◌, map, length}
-use Rattle.std.proofs.Common.{get_or, set, refl, sym, ◌∙◌, ap, subst, arith, Equal, Greater}
+use Rattle.std.proofs.Common.{get_or, set, sym, ◌∙◌, ap, subst, arith, Equal, Greater}
 use Rattle.std.proofs.Common.{inl, inr, Bor}
 use Rattle.std.specs.Ordering.{ordering_reverse}
 use Rattle.std.proofs.lemmas.Bool.{cases_lt}

@@ -5,3 +5,4 @@ pub mod Scope
 pub mod Walk
 pub mod Cursors
 pub mod Agreements
+pub mod Conjugates

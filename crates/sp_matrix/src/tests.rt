@@ -3,7 +3,10 @@ ghost use Rattle.std.specs.Prelude.{◌≡◌, ◌≤◌, ◌<◌, ◌^◌, IfOk
 ghost use Rattle.sp_llt.specs.Filled.{IsFilled};
 ghost use Rattle.sp_matrix.specs.Agreements.{HasAll};
 
-use crate::{Agreement, CompareFault, block, compare, compare_alone, crystal, decomposition};
+use crate::{
+    Agreement, CompareFault, block, compare, compare_alone, conjugate_grid, conjugate_vector,
+    conjugates_law, crystal, decomposition,
+};
 use sp_fock::Grid;
 use sp_laurent::Laurent;
 use sp_llt::{Ctx, Entry, Refused, RowsFault, entry_alone};
@@ -286,5 +289,72 @@ fn the_greatest_line_that_differs(rt: HostRuntime) -> Result<(), Fail> {
         told(alloc, compare_alone(alloc, 2, &grid, 1))?.as_slice(),
         large
     );
+    Ok(())
+}
+
+/// The matrix of coefficients, its conjugate, and the conjugate of that, as text.
+fn conjugated(alloc: Global, e: u8, degree: u8) -> Result<[Vec<u8>; 3], Fail>
+    requires e_least { 2 ≤ e }
+    requires e_most { e ≤ 64 }
+    requires small { degree ≤ 20 }
+{
+    let ctx = Ctx::open(alloc, e, degree, 1_000_000)?;
+    let rows = entries(alloc, &ctx)?;
+    let mut texts = [Vec::new(alloc), Vec::new(alloc), Vec::new(alloc)];
+    if let Ok(grid) = crystal(alloc, &ctx, &rows) {
+        let conjugate = conjugate_grid(alloc, &grid)?;
+        put_grid(alloc, &grid, &mut texts[0])?;
+        put_grid(alloc, &conjugate, &mut texts[1])?;
+        put_grid(alloc, &conjugate_grid(alloc, &conjugate)?, &mut texts[2])?;
+    }
+    Ok(texts)
+}
+
+#[test]
+fn conjugate_matrices(rt: HostRuntime) -> Result<(), Fail> {
+    let alloc = rt.alloc();
+    let [three, turned, _] = conjugated(alloc, 2, 3)?;
+    assert_eq!(rt;
+        three.as_slice(),
+        b" 3 2,1; 3 1 0; 2,1 0 1; 1^3 v 0".as_slice()
+    );
+    assert_eq!(rt;
+        turned.as_slice(),
+        b" 2,1 1^3; 3 0 v; 2,1 1 0; 1^3 0 1".as_slice()
+    );
+    let [_, turned, _] = conjugated(alloc, 2, 5)?;
+    let five =
+        b" 2^2,1 2,1^3 1^5; 5 0 0 v^2; 4,1 0 v 0; 3,2 v^2 0 0; 3,1^2 v 0 v; 2^2,1 1 0 0; 2,1^3 0 1 0; 1^5 0 0 1".as_slice();
+    assert_eq!(rt; turned.as_slice(), five);
+    let [none, turned, _] = conjugated(alloc, 2, 0)?;
+    assert_eq!(rt; turned.as_slice(), none.as_slice());
+    Ok(())
+}
+
+#[test]
+fn conjugates_of_conjugates(rt: HostRuntime) -> Result<(), Fail> {
+    conjugates_law();
+    for e in 2..5 {
+        let [once, _, twice] = conjugated(rt.alloc(), e, 7)?;
+        assert_eq!(rt; twice.as_slice(), once.as_slice());
+    }
+    Ok(())
+}
+
+#[test]
+fn conjugate_vectors(rt: HostRuntime) -> Result<(), Fail> {
+    let alloc = rt.alloc();
+    let ctx = Ctx::open(alloc, 2, 5, 1_000)?;
+    let rows = entries(alloc, &ctx)?;
+    let mut out = Vec::new(alloc);
+    for entry in &rows {
+        if let Ok(row) = entry.row() {
+            conjugate_vector(alloc, row)?.print(alloc, &mut out)?;
+            out.extend_from_slice(b"\n")?;
+        }
+    }
+    let turned =
+        b"v^2[3,2] + v[3,1^2] + [2^2,1]\nv[4,1] + [2,1^3]\nv^2[5] + v[3,1^2] + [1^5]\n".as_slice();
+    assert_eq!(rt; out.as_slice(), turned);
     Ok(())
 }
