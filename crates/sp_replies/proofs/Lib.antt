@@ -6,3 +6,4 @@ pub mod Induced
 pub mod Ranking
 pub mod Restricted
 pub mod BranchedRows
+pub mod Conventions

@@ -9,3 +9,4 @@ pub mod Vectors
 pub mod Rows
 pub mod Restrictions
 pub mod Modules
+pub mod Labels

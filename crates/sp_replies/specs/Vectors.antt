@@ -5,6 +5,9 @@ use Rattle.sp_defs.specs.Partition.{degree}
 use Rattle.sp_defs.specs.Power.{entries, divided_power, unit}
 use Rattle.sp_defs.specs.Ladder.{ladders, ladder_residue, on_ladder, ladder_vector, ladder_weight}
 use Rattle.sp_defs.specs.Text.{vector_text}
+use Rattle.sp_lang.specs.Convention.{label_in}
+use Rattle.sp_lang.specs.declared.convention.Convention.{Convention}
+use Rattle.sp_replies.specs.Labels.{vector_line}
 use Rattle.sp_replies.specs.Refusals.{refusal_line}
 use Rattle.sp_replies.specs.Words.{dash_or_words, line_of}
 use Rattle.sp_replies.specs.declared.refusals.Refusal.TheVariants.{TooLarge}
@@ -23,8 +26,12 @@ ladder_text e mu l = step_text l (ladder_residue e l) (on_ladder e mu l)
 abbrev pub ladders_text : ℕ → List ℕ → List ℕ
 ladders_text e mu = line_of (dash_or_words (map (ladder_text e mu) (ladders e mu)))
 
--- A ladder vector, unless it is too large.
-abbrev pub ladder_vector_text : ℕ → ℕ → List ℕ → List ℕ
-ladder_vector_text limit e mu =
+-- The ladder vector of mu as a convention tells it, unless it is too large.
+abbrev pub ladder_vector_or_refusal : ℕ → Convention → ℕ → List ℕ → List ℕ
+ladder_vector_or_refusal limit convention e mu =
     cond (nat_lt limit (ladder_weight e mu)) (refusal_line TooLarge)
-    (line_of (vector_text (entries (degree mu) (ladder_vector e mu))))
+    (vector_line convention (degree mu) (ladder_vector e mu))
+
+-- The ladder vector of the partition that a label stands for.
+abbrev pub ladder_vector_text : ℕ → Convention → ℕ → List ℕ → List ℕ
+ladder_vector_text limit convention e label = ladder_vector_or_refusal limit convention e (label_in convention label)

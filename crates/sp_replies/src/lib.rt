@@ -5,6 +5,9 @@
 mod abacuses;
 mod diagrams;
 mod faults;
+#[cfg(test)]
+mod label_tests;
+mod labels;
 mod modules;
 mod orders;
 mod refusals;
@@ -21,6 +24,7 @@ mod words;
 pub use abacuses::{put_combined, put_core};
 pub use diagrams::put_content;
 pub use faults::put_fault;
+pub use labels::{grid_in, refusal_in};
 pub use modules::{put_dim, put_jantzen};
 pub use orders::{dominance_law, put_conjugate, put_dominance, put_partitions, put_regulars};
 pub use refusals::{Refusal, put_named, put_refusal};

@@ -3,13 +3,16 @@ ghost use Rattle.std.specs.Prelude.{◌≡◌, ◌++◌, ◌≤◌, ◌<◌, ◌
 ghost use Rattle.sp_defs.specs.Partition.{IsPartition, degree as degree_of, is_regular};
 ghost use Rattle.sp_defs.specs.Power.{fock_vector, unit};
 ghost use Rattle.sp_defs.specs.Text.{vector_text};
+ghost use Rattle.sp_lang.specs.Convention.{label_in};
 ghost use Rattle.sp_replies.specs.Vectors.{induced_text, ladders_text, ladder_vector_text};
 ghost use Rattle.sp_replies.specs.Words.{line_of};
 
+use crate::labels::put_vector_in;
 use crate::refusals::{Refusal, put_refusal};
 use crate::words::put_words;
 use sp_fock::Vector;
 use sp_ladder::{ladder_vector, ladders};
+use sp_lang::Convention;
 use sp_partition::{DEGREE_LIMIT, Partition};
 use sp_power::{PowerFault, induce};
 use std::alloc::{AllocError, Global};
@@ -64,23 +67,25 @@ pub fn put_ladders(
     out.extend_from_slice(b"\n")
 }
 
-/// The ladder vector, or that it is too large.
+/// The ladder vector of the partition that a label stands for, in the labels of the convention, or that it is too
+/// large.
 pub fn put_ladder_vector(
     alloc: Global,
     limit: u128,
+    convention: Convention,
     e: u8,
-    mu: &Partition,
+    label: &Partition,
     out: &mut Vec<u8>,
 ) -> Result<(), AllocError>
     requires least { 1 ≤ limit }
     requires most { limit < 2 ^ 127 }
     requires e_least { 2 ≤ e }
     requires e_most { e ≤ 64 }
-    requires regular { is_regular e mu.now ≡ true }
-    ensures { OnOk result (out.new.items ≡ out.old.items ++ ladder_vector_text limit e mu.now) }
+    requires regular { is_regular e (label_in convention label.now) ≡ true }
+    ensures { OnOk result (out.new.items ≡ out.old.items ++ ladder_vector_text limit convention e label.now) }
 {
-    match ladder_vector(alloc, e, mu, limit) {
-        Ok(vector) => put_vector(alloc, &vector, out),
+    match ladder_vector(alloc, e, &convention.label(label), limit) {
+        Ok(vector) => put_vector_in(alloc, convention, &vector, out),
         Err(PowerFault::Memory) => Err(AllocError),
         Err(PowerFault::TooLarge) => put_refusal(alloc, &Refusal::TooLarge, out),
     }
