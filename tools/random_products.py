@@ -11,6 +11,7 @@ partitions. (Fulton, Young Tableaux, 5.2) Prints how many replies were compared;
 
 import os
 import random
+import re
 import shlex
 import shutil
 import subprocess
@@ -66,8 +67,8 @@ def by_lrcalc(lam, mu):
     lines = subprocess.run(["lrcalc", "mult", *words], check=True, capture_output=True, text=True).stdout.splitlines()
     found = {}
     for line in lines:
-        count, parts = line.split()
-        found[tuple(int(part) for part in parts.strip("()").split(",") if part not in ("", "0"))] = int(count)
+        count, *parts = (int(number) for number in re.findall(r"\d+", line))
+        found[tuple(part for part in parts if part)] = count
     return found
 
 

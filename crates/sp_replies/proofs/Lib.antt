@@ -4,6 +4,11 @@ pub mod Finding
 pub mod Images
 pub mod Induced
 pub mod Ranking
+pub mod Conventions
 pub mod Restricted
 pub mod BranchedRows
-pub mod Conventions
+pub mod StrictOrder
+pub mod UpToDegree
+pub mod BlockCounts
+pub mod BlockCores
+pub mod Coefficients

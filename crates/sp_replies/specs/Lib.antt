@@ -4,9 +4,11 @@ pub mod Refusals
 pub mod Orders
 pub mod Diagrams
 pub mod Abacuses
+pub mod Blocks
 pub mod Signatures
 pub mod Vectors
 pub mod Rows
 pub mod Restrictions
 pub mod Modules
 pub mod Labels
+pub mod Products

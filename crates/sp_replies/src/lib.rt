@@ -3,6 +3,9 @@
 #![tactic(auto)]
 
 mod abacuses;
+mod blocks;
+#[cfg(test)]
+mod blocks_tests;
 mod diagrams;
 mod faults;
 #[cfg(test)]
@@ -10,6 +13,9 @@ mod label_tests;
 mod labels;
 mod modules;
 mod orders;
+#[cfg(test)]
+mod product_tests;
+mod products;
 mod refusals;
 #[cfg(test)]
 mod restriction_tests;
@@ -22,11 +28,13 @@ mod vectors;
 mod words;
 
 pub use abacuses::{put_combined, put_core};
+pub use blocks::{block_weight_law, put_blocks};
 pub use diagrams::put_content;
 pub use faults::put_fault;
 pub use labels::{grid_in, refusal_in};
 pub use modules::{put_dim, put_jantzen};
 pub use orders::{dominance_law, put_conjugate, put_dominance, put_partitions, put_regulars};
+pub use products::{MOST_FILLINGS, put_fillings, put_product};
 pub use refusals::{Refusal, put_named, put_refusal};
 pub use restrictions::{put_branch, put_commutator, put_restriction};
 pub use rows::put_row;
