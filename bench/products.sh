@@ -1,8 +1,8 @@
 #!/usr/bin/env bash
-# Times the ten products of degree 30 with most fillings, all in one run of the program, beside `lrcalc mult` where it is
-# installed (one run of it for each product), by the clock, the least of RUNS runs (five), with the greatest resident
-# size; and the lists of their fillings, by the program. The products were found by a search through all pairs. The sum
-# of the coefficients of each has to be the number of fillings that stands behind it.
+# Times the ten products of degree 30 with most fillings, all in one run of the program, beside `lrcalc mult` where it
+# is installed (one run of it for each product), by the clock, the least of RUNS runs (five), with the greatest resident
+# size; and the list of the fillings of one partition with most of them, for each. The products were found by a search
+# through all pairs. The sum of the coefficients has to be the number of fillings that stands behind a product.
 # Usage: bench/products.sh [RUNS]
 set -u
 top=$(cd "$(dirname "$0")/.." && pwd)
@@ -18,22 +18,37 @@ alone = f"{top}/crates/specht_one/out/specht_one"
 
 products = [
     ("5,4,3,2,1", "5,4,3,2,1", 26704),
+    ("6,4,3,2,1", "6,4,2,1^2", 23117),
+    ("5,4,3,2,1^2", "5,3,2^2,1^2", 23117),
+    ("6,4,3,2,1^2", "5,4,2,1^2", 22404),
+    ("6,4,3,2,1^2", "5,3,2^2,1", 22404),
+    ("6,4,3,2,1^2", "6,3,2,1^2", 22086),
+    ("6,4,3,2,1^2", "5,3,2,1^3", 22086),
+    ("6,4,3,2,1", "5,4,2^2,1", 21496),
+    ("5,4,3,2,1^2", "5,4,2^2,1", 21496),
+    ("6,4,3,2,1", "5,4,3,1^2", 20754),
 ]
-asked = {
-    "product": "".join(f"product {lam} {mu}\n" for lam, mu, _ in products).encode(),
-    "fillings": "".join(f"fillings {lam} {mu} {lam}\n" for lam, mu, _ in products).encode(),
-}
-answers = timing.run([alone], asked["product"], keep=True).output.decode().splitlines()
-for (lam, mu, count), answer in zip(products, answers):
-    found = sum(int(number or 1) for number in re.findall(r"(?:^| )(\d*)\[", answer))
-    print(f"product {lam} {mu}: {found} fillings")
+def parts(text):
+    """The parts of a partition, with a space between each two."""
+    words = (word.split("^") for word in text.split(","))
+    return " ".join(" ".join([word[0]] * int(word[1] if len(word) > 1 else 1)) for word in words)
+
+
+asked = "".join(f"product {lam} {mu}\n" for lam, mu, _ in products).encode()
+answers = timing.run([alone], asked, keep=True).output.decode().splitlines()
+lists = ""
+for (lam, mu, count), answer in zip(products, answers, strict=True):
+    terms = [(int(number or 1), nu) for number, nu in re.findall(r"(\d*)\[([^]]*)\]", answer)]
+    most, nu = max(terms)
+    lists += f"fillings {lam} {mu} {nu}\n"
+    found = sum(number for number, _ in terms)
+    print(f"product {lam} {mu}: {found} fillings of {len(terms)} partitions, at most {most} of one")
     if found != count:
         raise SystemExit(f"{count} were expected")
 
-commands = {name: ([alone], text) for name, text in asked.items()}
+commands = {"product": ([alone], asked), "fillings": ([alone], lists.encode())}
 if shutil.which("lrcalc"):
-    spread = {name: name.replace(",", " ") for product in products for name in product[:2]}
-    lines = [f"lrcalc mult {spread[lam]} - {spread[mu]}" for lam, mu, _ in products]
+    lines = [f"lrcalc mult {parts(lam)} - {parts(mu)}" for lam, mu, _ in products]
     commands["lrcalc"] = (["sh", "-c", "\n".join(lines)], b"")
 best = timing.least(commands, runs)
 for name, (seconds, memory) in best.items():
