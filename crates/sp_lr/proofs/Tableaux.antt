@@ -13,8 +13,8 @@ use Rattle.sp_lr_defs.specs.Filling.{IsLaterChain}
 use Rattle.sp_lr_defs.specs.Strip.{IsStrip}
 use Rattle.sp_lr_defs.specs.Listing.{is_strip, strips_on, tableaux_on}
 use Rattle.sp_lr_defs.proofs.Tableaux.{AreTableau, strip_tested, tested_strip}
-use Rattle.sp_lr.proofs.InOrder.{InOrder, in_order-among, in_order-filter, in_order-flat, in_order-map, in_order-reverse}
-use Rattle.sp_lr.proofs.InOrder.{in_order-weaken}
+use Rattle.sp_lr.proofs.InOrder.{InOrder, in_order-among, in_order-filter, in_order-flat, in_order-map}
+use Rattle.sp_lr.proofs.InOrder.{in_order-reverse, in_order-weaken}
 use Rattle.sp_lr.proofs.ChainLists.{later_chain, later_chain_rest}
 
 -- ---- partitions

@@ -7,9 +7,9 @@ ghost use Rattle.sp_lr.specs.Results.{IsProduct};
 
 /// For all partitions: the chain of each filling with the first parts of mu as content begins the chain of a filling
 /// with all of them. So a search that adds one number after the other never has to turn back, and where it has found
-/// more chains than it may on the way, there are more in the end. No two fillings have one chain. And the lists that the
-/// answers are named by, of all fillings and of those of one partition, have each filling once, descending by chains,
-/// and the product counts them. It takes and answers nothing: its contract is the theorem.
+/// more chains than it may on the way, there are more in the end. No two fillings have one chain. And the lists that
+/// the answers are named by, of all fillings and of those of one partition, have each filling once, descending by
+/// chains, and the product counts them. It takes and answers nothing: its contract is the theorem.
 pub fn filling_law()
     ensures extended { (lambda mu later : List ℕ) (chain : List (List ℕ)) → IsPartition lambda →
         IsPartition (mu ++ later) → IsChain lambda mu chain →

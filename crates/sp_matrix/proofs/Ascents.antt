@@ -1,13 +1,14 @@
 -- Ascending lists of partitions: by what occurs in them, and by a sort.
 use Rattle.std.proofs.Common.{◌≡◌, ℕ, zero, suc, ◌+◌, ◌<◌, ◌≤◌, Bool, true, false, cond, List, [], ◌∷◌, map, length}
 use Rattle.std.proofs.Common.{get_or, refl, sym, ◌∙◌, ap, ap₂, subst, arith, inl, inr, count_by}
-use Rattle.std.proofs.Common.{Ordering, Less, Equal, Greater, is_eq, is_lt}
+use Rattle.std.proofs.Common.{Less, Equal, Greater, is_eq, is_lt}
 use Rattle.std.proofs.lemmas.List.{get_or-map, length-map}
 use Rattle.std.proofs.lemmas.List.Elements.{All-from_recursion, recursion_from_All}
 use Rattle.std.proofs.lemmas.List.Sorted.{All-permutation, Contains-permutation, ranks_by, sorted_far}
 use Rattle.std.specs.List.{AllByRecursion}
 use Rattle.std.specs.List.Sorted.{IsPermutation, IsSorted, IsSortedByKey}
 use Rattle.std.specs.Ordering.{ordering_reverse}
+use Rattle.std.specs.Cmp.{Equal-is}
 use Rattle.sp_defs.specs.Partition.{compare, order, Ascending, IsEarlier, IsPartitionOf}
 use Rattle.sp_lists.proofs.Counts.{count-cons}
 use Rattle.sp_lists.proofs.Elements.{count_zero}
@@ -18,14 +19,9 @@ use Rattle.sp_shapes.proofs.Order.{equal_self, later_than, less_trans, same_list
 
 -- ---- tests of two lists of parts
 
-is_equal : (o : Ordering) → is_eq o ≡ true → o ≡ Equal
-is_equal Less h = cc
-is_equal Equal h = refl
-is_equal Greater h = cc
-
 -- Lists that pass the test are one.
 pub same_test : (x y : List ℕ) → is_eq (compare x y) ≡ true → x ≡ y
-same_test x y h = same_lists x y (is_equal (compare x y) h)
+same_test x y h = same_lists x y ((Equal-is (compare x y)).0 h)
 
 -- One list passes it.
 pub test_same : (x y : List ℕ) → x ≡ y → is_eq (compare x y) ≡ true

@@ -134,7 +134,8 @@ conjugate_among n xs x h =
     same_tests (is_among (conjugates n xs) (conjugate x)) (is_among xs x)
     (λ e. twice (from_filter t (conjugate x) (lines_of n) (among_occurs (conjugates n xs) (conjugate x) e)).1)
     (λ e. occurs_among (conjugates n xs) (conjugate x)
-    (occurs_filter t (conjugate x) (lines_of n) (once_more e) (line_occurs n (conjugate x) (conjugate_of_degree n x h))))
+    (occurs_filter t (conjugate x) (lines_of n) (once_more e)
+    (line_occurs n (conjugate x) (conjugate_of_degree n x h))))
   where
     t : List ℕ → Bool
     t lambda = is_among xs (conjugate lambda)

@@ -58,7 +58,8 @@ module _ (n : ℕ) (heading : List (List ℕ)) (h : IsHeading n heading) (ps : L
   unfolding conjugates
   heading_sorted =
       ap reverse
-      (sym (rebuilt (λ lambda. place heading (conjugate lambda)) ps places) ∙ ap (map (with_place heading)) heading_keys)
+      (sym (rebuilt (λ lambda. place heading (conjugate lambda)) ps places)
+      ∙ ap (map (with_place heading)) heading_keys)
       ∙ sym (map-reverse (with_place heading) passed)
       ∙ ap (map (with_place heading))
       (sym (filter-reverse (λ lambda. is_among heading (conjugate lambda)) (partitions n)))

@@ -1,5 +1,5 @@
--- Conjugates of vectors and of grids: each partition stands for its conjugate. Where the columns of a matrix are labelled
--- by e-regular partitions, those of its conjugate are labelled by e-restricted ones.
+-- Conjugates of vectors and of grids: each partition stands for its conjugate. Where the columns of a matrix are
+-- labelled by e-regular partitions, those of its conjugate are labelled by e-restricted ones.
 -- James, 1978: The Representation Theory of the Symmetric Groups; Mathas, 1999: Iwahori-Hecke Algebras and Schur
 -- Algebras of the Symmetric Group.
 use Rattle.std.specs.Prelude.{ℕ, Bool, List, filter}

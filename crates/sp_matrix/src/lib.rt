@@ -1,4 +1,5 @@
-//! Matrices of the coefficients of rows, of their values at v = 1, and blocks of these; conjugates of vectors and grids.
+//! Matrices of the coefficients of rows, of their values at v = 1, and blocks of these; conjugates of vectors and of
+//! grids.
 #![tactic(auto)]
 
 mod cells;

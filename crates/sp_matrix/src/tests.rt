@@ -323,8 +323,9 @@ fn conjugate_matrices(rt: HostRuntime) -> Result<(), Fail> {
         b" 2,1 1^3; 3 0 v; 2,1 1 0; 1^3 0 1".as_slice()
     );
     let [_, turned, _] = conjugated(alloc, 2, 5)?;
-    let five =
-        b" 2^2,1 2,1^3 1^5; 5 0 0 v^2; 4,1 0 v 0; 3,2 v^2 0 0; 3,1^2 v 0 v; 2^2,1 1 0 0; 2,1^3 0 1 0; 1^5 0 0 1".as_slice();
+    let five = b" 2^2,1 2,1^3 1^5; 5 0 0 v^2; 4,1 0 v 0; 3,2 v^2 0 0; 3,1^2 v 0 v; 2^2,1 1 0 0; \
+        2,1^3 0 1 0; 1^5 0 0 1"
+        .as_slice();
     assert_eq!(rt; turned.as_slice(), five);
     let [none, turned, _] = conjugated(alloc, 2, 0)?;
     assert_eq!(rt; turned.as_slice(), none.as_slice());

@@ -39,8 +39,9 @@ returns-in_err-push_fillings-clause-past c =
 
 pub returns-clause-listed : goal.returns-clause-listed
 returns-clause-listed c =
-    found_over c.args.lambda.now c.args.mu.now (chains_in c.new-found.result.items) (chains_in c.push_fillings.new.found.items)
-    c.append.new.list.items c.part.result c.parts.result.now c.degree.ensures.held.partition
+    found_over c.args.lambda.now c.args.mu.now (chains_in c.new-found.result.items)
+    (chains_in c.push_fillings.new.found.items) c.append.new.list.items c.part.result c.parts.result.now
+    c.degree.ensures.held.partition
     (ap chains_in c.new-found.ensures.items)
     (c.in_ok-append.ensures ∙ ap (λ xs. xs ++ c.args.lambda.now ∷ []) c.new-chain.ensures.items)
     c.part.ensures.value c.parts.ensures.parts c.in_ok-push_fillings.ensures.found
