@@ -1,11 +1,10 @@
 // All entries of a context, made by many workers.
-ghost use Rattle.std.specs.Prelude.{◌≡◌, ◌<◌, ◌≤◌, IfOk, length};
-ghost use Rattle.std.specs.Arc.{arc_value};
-ghost use Rattle.sp_llt.specs.Place.{labels, place};
-ghost use Rattle.sp_llt.specs.Filled.{IsFilled, HasFirst};
+ghost use Rattle.std.specs.Prelude.{◌≡◌, ◌≤◌, IfOk, length};
+ghost use Rattle.sp_llt.specs.Place.{labels};
+ghost use Rattle.sp_llt.specs.Filled.{IsFilled};
 
 use crate::Gate;
-use crate::alone::entry_from;
+use crate::collecting::{Finished, collect};
 use crate::worker::work;
 use sp_board::{Board, Desk, Look, Seat};
 use sp_cells::Cells;
@@ -80,32 +79,11 @@ fn run_workers<R: Threads + Wait + Sync, G: Gate>(
     );
 }
 
-// Each row from the board, or else made here.
-fn collect(alloc: Global, ctx: &Ctx, board: &Board<Entry>) -> Result<Vec<Arc<Entry>>, AllocError>
-    ensures { IfOk result (λ rows. IsFilled ctx.now rows.items) }
-{
-    let mut rows = Vec::new(alloc);
-    for k in 0..ctx.regulars().len() {
-        let row = row_of(alloc, ctx, board, &rows, k)?;
-        rows.push(row)?;
-    }
-    Ok(rows)
-}
-
-// The row of a rank from the board, or else made from those of all ranks below it.
-fn row_of(
-    alloc: Global,
-    ctx: &Ctx,
-    board: &Board<Entry>,
-    rows: &[Arc<Entry>],
-    k: usize,
-) -> Result<Arc<Entry>, AllocError>
-    requires rank { k < length (labels ctx.now) }
-    requires rows { HasFirst ctx.now k rows.now }
-    ensures { IfOk result (λ row. arc_value row ≡ place ctx.now k) }
-{
-    match board.look(k) {
-        Look::Done(piece) if piece.is_of(ctx, k) => Ok(Arc::try_clone(piece)?),
-        _ => Ok(Arc::new(alloc, entry_from(alloc, ctx, rows, k)?)?),
+impl Finished for Board<Entry> {
+    fn find(&self, k: usize) -> Option<&Arc<Entry>> {
+        match self.look(k) {
+            Look::Done(piece) => Some(piece),
+            _ => None,
+        }
     }
 }

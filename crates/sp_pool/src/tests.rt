@@ -30,7 +30,7 @@ fn line(alloc: Global, row: &Entry, out: &mut Vec<u8>) -> Result<(), Fail> {
 }
 
 /// The entries, the greatest partition first.
-fn text(alloc: Global, rows: &[Arc<Entry>]) -> Result<Vec<u8>, Fail> {
+pub(crate) fn text(alloc: Global, rows: &[Arc<Entry>]) -> Result<Vec<u8>, Fail> {
     let mut out = Vec::new(alloc);
     for row in rows.iter().rev() {
         line(alloc, row, &mut out)?;
@@ -67,12 +67,12 @@ fn one_and_many_workers_make_the_same_rows(rt: HostRuntime) -> Result<(), Fail> 
     Ok(())
 }
 
-const CLAIM_TURNS: u64 = 1_000_000_000;
+pub(crate) const CLAIM_TURNS: u64 = 1_000_000_000;
 
 const HOLD_TURNS: u64 = 100_000_000;
 
-// Waits until the number is reached, and gives up after the turns.
-fn reaches(count: &AtomicU64, least: u64, turns: u64) -> bool {
+/// Waits until the number is reached, and gives up after the turns.
+pub(crate) fn reaches(count: &AtomicU64, least: u64, turns: u64) -> bool {
     for _ in 0..turns {
         if count.load(Ordering::SeqCst) >= least {
             return true;

@@ -1,12 +1,13 @@
 // What one worker does.
 ghost use Rattle.std.specs.Prelude.{◌≡◌, ◌<◌, ◌≤◌, length, IfSome, Some as Just};
-ghost use Rattle.sp_cells.specs.Known.{IsOf};
+ghost use Rattle.sp_cells.specs.Known.{IsOf, IsRow};
 ghost use Rattle.sp_llt.specs.Place.{label, labels, place, progress};
 ghost use Rattle.sp_outcome_law.specs.Asking.{asked};
 
 use crate::Gate;
 use sp_board::{Awaited, Claim, Desk, Given, Published, Seat};
 use sp_cells::{Cells, Parcel, Pass, Shown};
+use sp_core::Piece;
 use sp_llt::{Builder, Ctx, Entry};
 use std::alloc::Global;
 use std::sync::{Arc, Wait};
@@ -60,11 +61,12 @@ fn one_row<R: Wait, G: Gate>(
         return seat_given(desk.lose(rt, claim));
     };
     gate.at_publish(w, k);
-    show(ctx, cells, pass, k, parcel);
+    show(cells, pass, k, parcel);
     seat_published(desk.publish(rt, claim, piece))
 }
 
-fn seat_given(given: Given) -> Seat {
+/// The seat of a claim that was lost.
+pub(crate) fn seat_given(given: Given) -> Seat {
     match given {
         Given::Marked(seat) => seat,
         Given::Strange {
@@ -74,7 +76,8 @@ fn seat_given(given: Given) -> Seat {
     }
 }
 
-fn seat_published(published: Published<Entry>) -> Seat {
+/// The seat of a claim that was published.
+pub(crate) fn seat_published<T: Piece>(published: Published<T>) -> Seat {
     match published {
         Published::Kept(seat) => seat,
         Published::Strange {
@@ -86,13 +89,11 @@ fn seat_published(published: Published<Entry>) -> Seat {
     }
 }
 
-// Shows a row. Whose piece is there first doesn't matter: any that fits is this row.
-fn show(ctx: &Ctx, cells: &Cells<Entry>, pass: &mut Pass<Entry>, k: usize, parcel: Parcel<Entry>)
-    requires key { cells.now.key ≡ ctx.now }
-    requires rows { length cells.now.names ≡ length (labels ctx.now) }
+/// Shows a row. Whose piece is there first doesn't matter: any that fits is this row.
+pub(crate) fn show<T: Piece>(cells: &Cells<T>, pass: &mut Pass<T>, k: usize, parcel: Parcel<T>)
+    requires row { k < length cells.now.names }
     requires of { IsOf cells.now pass.old }
-    requires row { k < length (labels ctx.now) }
-    requires parcel { parcel ≡ place ctx.now k }
+    requires parcel { IsRow T.key T.number cells.now k parcel }
     ensures { IsOf cells.now pass.new }
 {
     match cells.show(pass, k, parcel) {
@@ -130,11 +131,11 @@ fn make<R: Wait>(
     packed(alloc, builder.finish())
 }
 
-// The entry twice: to be published, and to be shown.
-fn packed(alloc: Global, entry: Entry) -> Option<(Arc<Entry>, Parcel<Entry>)>
-    ensures { IfSome result (λ r. r.1 ≡ entry) }
+/// A piece twice: to be published, and to be shown.
+pub(crate) fn packed<T: Piece>(alloc: Global, piece: T) -> Option<(Arc<T>, Parcel<T>)>
+    ensures { IfSome result (λ r. r.1 ≡ piece) }
 {
-    let piece = Arc::new(alloc, entry).ok()?;
+    let piece = Arc::new(alloc, piece).ok()?;
     let copy = Arc::try_clone(&piece).ok()?;
     let parcel = Parcel::pack(alloc, copy).ok()?;
     Some((piece, parcel))
