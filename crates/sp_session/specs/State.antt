@@ -3,18 +3,21 @@ use Rattle.std.specs.Prelude.{List, ℕ, [], ◌∷◌, ◌++◌}
 use Rattle.sp_checking.specs.SoFar.{unfinished_text}
 use Rattle.sp_checking.specs.declared.so_far.Checking.{Checking}
 use Rattle.sp_checking.specs.declared.so_far.Checking.TheVariants.{Outside}
+use Rattle.sp_lang.specs.declared.convention.Convention.{Convention}
+use Rattle.sp_lang.specs.declared.convention.Convention.TheVariants.{Regular}
 use Rattle.sp_paint.specs.State.{PainterState, named_by_form}
 use Rattle.sp_paint.specs.declared.form.Form.TheVariants.{Plain, Tex, Gap}
 use Rattle.sp_session.specs.Easel.{EaselState, first_chosen, trailers}
 
--- Its painters, and how far the certificate behind a `check` has come.
+-- Its painters, the convention for labels, and how far the certificate behind a `check` has come.
 pub record State : Type 0 where
   pub easel : EaselState
+  pub convention : Convention
   pub certificate : Checking
 
--- Before the first line the first painter is chosen, and no certificate was begun.
+-- Before the first line the first painter is chosen, labels are e-regular, and no certificate was begun.
 abbrev pub opening : List PainterState → State
-opening painters = record { easel = first_chosen painters; certificate = Outside }
+opening painters = record { easel = first_chosen painters; convention = Regular; certificate = Outside }
 
 -- The painters of the programs, in order, before their first page.
 abbrev pub standard_painters : List PainterState

@@ -1,9 +1,8 @@
 -- The grids that pages show, and why there is none. This project's own.
-use Rattle.std.specs.Prelude.{◌≡◌, ℕ, ◌+◌, ◌*◌, ◌≤◌, cond, not, nat_lt, List, Option, Some, None, Result, Ok, Err}
+use Rattle.std.specs.Prelude.{◌≡◌, ℕ, ◌+◌, ◌*◌, cond, not, nat_lt, List, Option, Some, None, Result, Ok, Err}
 use Rattle.sp_defs.specs.Abacus.{core}
 use Rattle.sp_defs.specs.Partition.{degree}
 use Rattle.sp_fock_law.specs.Grid.{GridValue}
-use Rattle.sp_lang.specs.Given.{IsE}
 use Rattle.sp_llt.specs.declared.refused.FirstRefused.{FirstRefused}
 use Rattle.sp_llt.specs.declared.refused.RowsFault.{RowsFault}
 use Rattle.sp_llt.specs.declared.refused.RowsFault.TheVariants.{Refused, Memory}
@@ -14,8 +13,6 @@ use Rattle.sp_replies.specs.Abacuses.{is_partition}
 use Rattle.sp_replies.specs.Refusals.{by_column}
 use Rattle.sp_replies.specs.declared.refusals.Refusal.{Refusal}
 use Rattle.sp_replies.specs.declared.refusals.Refusal.TheVariants.{NotCore, PastDegree}
-use Rattle.sp_session.specs.declared.tables.Subject.{Subject}
-use Rattle.sp_session.specs.declared.tables.Subject.TheVariants.{Crystal, Decomposition, Block}
 
 -- The grid, unless a column is refused.
 abbrev pub unless_refused : Option FirstRefused → GridValue → Result GridValue Refusal
@@ -44,19 +41,6 @@ block_table limit e kappa w =
     cond (not (is_partition (core e kappa) kappa)) (Err NotCore)
     (cond (nat_lt DEGREE_LIMIT (block_degree e kappa w)) (Err PastDegree)
     (block_within limit e kappa (block_degree e kappa w)))
-
--- ---- what a page shows
-
-abbrev pub table_of : ℕ → Subject → Result GridValue Refusal
-table_of limit (Crystal e n) = crystal_table limit e n
-table_of limit (Decomposition e n) = decomposition_table limit e n
-table_of limit (Block e kappa w) = block_table limit e kappa w
-
--- e and the degree are allowed ones.
-abbrev pub IsSubject : Subject → Type 0
-IsSubject (Crystal e n) = IsE e × (n ≤ DEGREE_LIMIT)
-IsSubject (Decomposition e n) = IsE e × (n ≤ DEGREE_LIMIT)
-IsSubject (Block e kappa w) = IsE e
 
 -- What becomes of a grid that may be refused: the grid, or the column that refuses it. Without memory there is neither.
 abbrev pub IsTold : Result GridValue RowsFault → Result GridValue Refusal → Type 0

@@ -1,11 +1,11 @@
-// The grids that pages show.
+// The matrices of a degree, and their blocks.
 ghost use Rattle.std.specs.Prelude.{◌≡◌, ◌≤◌, ◌<◌, ◌^◌, IfOk, IfSome, IsNone};
 ghost use Rattle.sp_defs.specs.Partition.{IsPartition, degree as degree_of};
 ghost use Rattle.sp_module_defs.specs.Cells.{IsSquareUnitriangular, cell_at};
 ghost use Rattle.sp_fock_law.specs.Grid.{GridValue};
 ghost use Rattle.sp_matrix.specs.Agreements.{HasAll};
-ghost use Rattle.sp_session.specs.Tables.{IsSubject, IsTold, block_degree, block_table, block_within, crystal_table};
-ghost use Rattle.sp_session.specs.Tables.{decomposition_table, table_of};
+ghost use Rattle.sp_session.specs.Tables.{IsTold, block_degree, block_table, block_within, crystal_table};
+ghost use Rattle.sp_session.specs.Tables.{decomposition_table};
 
 use crate::fillers::Filler;
 use sp_abacus::core;
@@ -16,40 +16,10 @@ use sp_partition::{DEGREE_LIMIT, Partition};
 use sp_replies::Refusal;
 use std::alloc::{AllocError, Global};
 
-/// What a page shows.
-#[derive(Clone, Copy, Debug)]
-pub(crate) enum Subject {
-    /// The matrix of a degree.
-    Crystal(u8, u8),
-    /// The matrix of a degree at v = 1.
-    Decomposition(u8, u8),
-    /// The block with this core and this weight, at v = 1.
-    Block(u8, Partition, u64),
-}
-
 /// A grid, or why there is none.
 pub(crate) type Table = Result<Grid, Refusal>;
 
-/// The grid of a page. An `Err` is want of memory, here and below.
-pub(crate) fn subject_table<F: Filler>(
-    alloc: Global,
-    limit: u128,
-    filler: &F,
-    subject: &Subject,
-) -> Result<Table, AllocError>
-    requires least { 1 ≤ limit }
-    requires most { limit < 2 ^ 127 }
-    requires subject { IsSubject subject.now }
-    ensures { IfOk result (λ table. table ≡ table_of limit subject.now) }
-{
-    match subject {
-        Subject::Crystal(e, n) => crystal_table(alloc, limit, filler, *e, *n),
-        Subject::Decomposition(e, n) => decomposition_table(alloc, limit, filler, *e, *n),
-        Subject::Block(e, kappa, w) => block_table(alloc, limit, filler, *e, kappa, *w),
-    }
-}
-
-/// The matrix of a degree.
+/// The matrix of a degree. An `Err` is want of memory, here and below.
 #[tactic(auto, unfolding(crate::specs::Tables::crystal_table))]
 pub(crate) fn crystal_table<F: Filler>(
     alloc: Global,
@@ -72,9 +42,9 @@ pub(crate) fn crystal_table<F: Filler>(
     told(crystal(alloc, &ctx, &rows))
 }
 
-// The matrix of a degree at v = 1.
+/// The matrix of a degree at v = 1.
 #[tactic(auto, unfolding(crate::specs::Tables::decomposition_table))]
-fn decomposition_table<F: Filler>(
+pub(crate) fn decomposition_table<F: Filler>(
     alloc: Global,
     limit: u128,
     filler: &F,
@@ -93,9 +63,9 @@ fn decomposition_table<F: Filler>(
     told(decomposition(alloc, &ctx, &rows))
 }
 
-// The block with this core and this weight, at v = 1.
+/// The block with this core and this weight, at v = 1.
 #[tactic(auto, unfolding(crate::specs::Tables::block_table))]
-fn block_table<F: Filler>(
+pub(crate) fn block_table<F: Filler>(
     alloc: Global,
     limit: u128,
     filler: &F,
