@@ -36,7 +36,7 @@ fn run_many<R: Threads + Wait + Sync, G: Gate>(
 }
 
 /// Whether a run with these words is done, and writes this.
-fn writes<R: Threads + Wait + Sync, G: Gate>(
+pub(crate) fn writes<R: Threads + Wait + Sync, G: Gate>(
     rt: &R,
     alloc: Global,
     words: &[&str],
