@@ -1,5 +1,5 @@
 #!/usr/bin/env bash
-# Times all rows of a degree, as pages of matrices, and counts the instructions of one of them. Each page is a run of
+# Times all rows of a degree, as pages of matrices, in both conventions, and counts the instructions of one of them. Each page is a run of
 # the program, so its start and the printing are counted too; the programs take turns, and the least processor time of
 # RUNS runs is taken (eleven; three from degree 24 on), with the greatest resident size.
 # Usage: bench/rows.sh [BASELINE.rs [RUNS]]. BASELINE.rs is an unverified program of the same algorithm, which is
@@ -34,9 +34,18 @@ for e, n in pages:
     told += [f"ratio to {name} {best['program'][0] / best[name][0]:.2f}" for name in commands if name != "program"]
     print(f"e = {e}, n = {n}: " + ", ".join(told), flush=True)
 
-for line in ("crystal 64 30", "block 3 1 9", "row 2 30"):
+for line in ("crystal 64 30", "block 3 1 9", "row 2 30", "branch 2 0 30"):
     ran = timing.run([ours], line.encode())
     print(f"{line}: {ran.processor:.3f} s {ran.memory:.0f} MB", flush=True)
+
+# ten pages in one run, so that its start does not count
+for e in (2, 3):
+    pages = f"crystal {e} 20\n".encode() * 10
+    best = timing.least(
+        {"regular": ([ours], pages), "restricted": ([ours], b"convention restricted\n" + pages)}, runs, by="processor"
+    )
+    ratio = best["restricted"][0] / best["regular"][0]
+    print(f"crystal {e} 20 in restricted labels: {ratio:.2f} times the page in regular ones", flush=True)
 PY
 
 if command -v valgrind >/dev/null; then

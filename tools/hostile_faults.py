@@ -30,6 +30,9 @@ EVERY = (
     b"block 2 1 1\njantzen 3 1^3\nschaper 2 4\ndim 3,1\ndims 2 4\nno command\ncertificate 2 2\n"
     b"check\ncertificate 1\ne 2\ndegree 2\ncolumn 2\nentry 2 1\nentry 1^2 v\nend\n"
     b"check\nno certificate\nend\ndim 1\n"
+    b"restrict 2 0 3,1\ncommutator 2 0 0 3,1\nbranch 2 0 4\nproduct 2,1 1\nfillings 2,1 1 3,1\nblocks 2 3\n"
+    b"inverse 2 3\nsimple 2 3\ncartan 2 3\nconvention restricted\nladder 2 1^3\nrow 2 1^4\nrow 2 4\ncrystal 2 3\n"
+    b"block 2 1 1\njantzen 3 3\nschaper 2 4\ndims 2 3\nconvention none\nconvention regular\n"
 )
 TRAILER = re.compile(rb"(% tables \d+\n)?(# matrices \d+\n)?\Z")
 
@@ -50,7 +53,7 @@ class Library:
         pipes = {"stdin": subprocess.PIPE, "stdout": subprocess.PIPE, "stderr": subprocess.PIPE}
         with subprocess.Popen(program, env={**os.environ, **settings}, pass_fds=[writer], **pipes) as process:
             os.close(writer)
-            written, said = process.communicate(data, timeout=20)
+            written, said = process.communicate(data, timeout=120)
         counts = os.read(reader, 128).split()
         os.close(reader)
         return process.returncode, written, said, [int(count) for count in counts]
