@@ -18,7 +18,8 @@ use Rattle.sp_lists.proofs.Places.{all_weaken}
 use Rattle.sp_shapes.proofs.Order.{same_lists}
 use Rattle.sp_fock.specs.Held.{ArePairs, IsHeld, held_as}
 use Rattle.sp_fock_law.specs.Grid.{GridValue, IsGrid, cell_of}
-use Rattle.sp_fock_law.proofs.Vectors.{all_at as entries_keep, ascending_at, entries-alike, entries-vector_of, entries_at}
+use Rattle.sp_fock_law.proofs.Vectors.{all_at as entries_keep, ascending_at, entries-alike, entries-vector_of}
+use Rattle.sp_fock_law.proofs.Vectors.{entries_at}
 use Rattle.sp_fock_law.proofs.Vectors.{vector_of-entries_at}
 use Rattle.sp_module_defs.specs.Cells.{cell_at, place}
 use Rattle.sp_partition.specs.Held.{IsHeld as IsHeldPartition}

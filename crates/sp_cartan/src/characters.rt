@@ -12,9 +12,9 @@ use sp_laurent::Laurent;
 use sp_partition::{Partition, place_in};
 use std::alloc::{AllocError, Global};
 
-/// The simple module of `mu` as a sum of Specht modules, by the inverse of the square part of a decomposition matrix: at
-/// each column it is the value at v = 1 of the cell in the line of `mu`, as a constant. Where `mu` is no line it is 0.
-/// (Mathas, Iwahori-Hecke Algebras and Schur Algebras of the Symmetric Group, ch. 6)
+/// The simple module of `mu` as a sum of Specht modules, by the inverse of the square part of a decomposition matrix:
+/// at each column it is the value at v = 1 of the cell in the line of `mu`, as a constant. Where `mu` is no line it is
+/// 0. (Mathas, Iwahori-Hecke Algebras and Schur Algebras of the Symmetric Group, ch. 6)
 pub fn simple_character(alloc: Global, inverse: &Grid, mu: &Partition) -> Result<Vector, AllocError>
     ensures { IfOk result (λ v. v ≡ fock_vector inverse.now.degree (character_of inverse.now mu.now)) }
 {

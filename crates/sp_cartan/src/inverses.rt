@@ -1,5 +1,6 @@
 // The inverse of the square part of a matrix.
-ghost use Rattle.std.specs.Prelude.{◌≡◌, ◌≤◌, ◌<◌, ◌^◌, ℕ, List, IfOk, OnOk, IsErrOf, length, None as Nothing, Some as Just};
+ghost use Rattle.std.specs.Prelude.{◌≡◌, ◌≤◌, ◌<◌, ◌^◌, ℕ, List, IfOk, OnOk, IsErrOf, length, None as Nothing};
+ghost use Rattle.std.specs.Prelude.{Some as Just};
 ghost use Rattle.sp_fock_law.specs.Grid.{GridValue};
 ghost use Rattle.sp_module_defs.specs.Cells.{IsSquareUnitriangular, cell_at};
 ghost use Rattle.sp_grid_law.specs.Inverses.{IsInverse};
@@ -18,8 +19,8 @@ pub const INVERTED_POWERS: u32 = 100_000;
 /// The inverse of the square part of a matrix: of the lines that are columns. The matrix has at most 5,604 columns, and
 /// in each of them 1 at its own line and 0 at the lines of greater columns.
 ///
-/// `TooLarge` with the greatest column, in any line, that has a power further from 0 than `INVERTED_POWERS`; where there
-/// is none, with the greatest one at which, in some line, the sum of the products of the sizes passes the limit.
+/// `TooLarge` with the greatest column, in any line, that has a power further from 0 than `INVERTED_POWERS`; where
+/// there is none, with the greatest one at which, in some line, the sum of the products of the sizes passes the limit.
 /// (Mathas, Iwahori-Hecke Algebras and Schur Algebras of the Symmetric Group, ch. 6)
 pub fn inverse_matrix(alloc: Global, g: &Grid, limit: u128) -> Result<Grid, GridFault>
     requires triangular { IsSquareUnitriangular g.now.columns (cell_at g.now) }

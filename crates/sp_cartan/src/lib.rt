@@ -1,5 +1,5 @@
-//! What is read off a decomposition matrix: its square part, the inverse of that part, its Cartan matrix, and the simple
-//! modules as sums of Specht modules.
+//! What is read off a decomposition matrix: its square part, the inverse of that part, its Cartan matrix, and the
+//! simple modules as sums of Specht modules.
 #![tactic(auto)]
 
 mod cartan;

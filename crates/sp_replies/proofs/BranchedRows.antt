@@ -80,7 +80,8 @@ outside n w lambda other = settle (nil_or_not (vector_of (entries n w) lambda))
 -- The one partition of degree 1 has one node.
 one_node : (e : ℕ) (lambda : List ℕ) → IsPartitionOf 1 lambda → content e lambda (residue e (1, 1)) ≡ 1
 unfolding nodes_from partitions partitions_within
-one_node e lambda h = ap (λ p. content e p (residue e (1, 1))) (only (each_partition 1 lambda h.partition h.total)) ∙ counted
+one_node e lambda h = ap (λ p. content e p (residue e (1, 1))) (only (each_partition 1 lambda h.partition h.total))
+    ∙ counted
   where
     only : Occurs lambda (partitions 1) → lambda ≡ 1 ∷ []
     only (inl same) = same

@@ -8,7 +8,8 @@ use Rattle.sp_fock_law.proofs.Single.{entries-unit}
 use Rattle.sp_sl2_law.specs.Restriction.{restriction, restriction_weight}
 use Rattle.sp_sl2_law.proofs.Enlarged.{unit_weight}
 use Rattle.sp_replies.specs.Refusals.{refusal_line}
-use Rattle.sp_replies.specs.Restrictions.{restricted_text, restriction_or_refusal, commutator_or_refusal, commutator_text}
+use Rattle.sp_replies.specs.Restrictions.{restricted_text, restriction_or_refusal, commutator_or_refusal}
+use Rattle.sp_replies.specs.Restrictions.{commutator_text}
 use Rattle.sp_replies.specs.Words.{line_of}
 use Rattle.sp_replies.specs.declared.refusals.Refusal.TheVariants.{TooLarge}
 

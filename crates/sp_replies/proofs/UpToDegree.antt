@@ -4,7 +4,8 @@ use Rattle.std.proofs.Common.{Greater, refl, sym, ◌∙◌, ap, arith, lt-ltb}
 use Rattle.std.specs.List.{AllByRecursion, range_with_len}
 use Rattle.std.specs.List.Sorted.{IsStrictlySortedBy}
 use Rattle.std.specs.Ordering.{ordering_then}
-use Rattle.sp_defs.specs.Partition.{IsPartition, IsPartitionOf, Ascending, IsEarlier, compare, degree, order, partitions}
+use Rattle.sp_defs.specs.Partition.{IsPartition, IsPartitionOf, Ascending, IsEarlier, compare, degree, order}
+use Rattle.sp_defs.specs.Partition.{partitions}
 use Rattle.sp_lists.proofs.Elements.{all_flat, range_all}
 use Rattle.sp_lists.proofs.Occurrence.{Occurs, occurs_flat, occurs_range}
 use Rattle.sp_lists.proofs.Places.{all_weaken}

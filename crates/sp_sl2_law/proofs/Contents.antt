@@ -1,5 +1,6 @@
 -- A restriction has one node of a residue less than the vector.
-use Rattle.std.proofs.Common.{◌≡◌, ◌≢◌, ℕ, ◌+◌, true, cond, ◌&&◌, nat_eq, List, [], ◌∷◌, length, count_by, ◌∙◌, ap, arith}
+use Rattle.std.proofs.Common.{◌≡◌, ◌≢◌, ℕ, ◌+◌, true, cond, ◌&&◌, nat_eq, List, [], ◌∷◌, length, count_by, ◌∙◌, ap}
+use Rattle.std.proofs.Common.{arith}
 use Rattle.std.proofs.Common.{eqb-true}
 use Rattle.std.specs.List.{list_all}
 use Rattle.sp_defs.specs.Partition.{degree, IsPartition}
@@ -34,7 +35,8 @@ node_more e i smaller larger ps h = record {
         (and_split (nat_eq (length (added smaller larger)) 1)
         (list_all (λ x. nat_eq (residue e x) i) (added smaller larger))
         (and_split (list_all (in_diagram larger) (nodes smaller))
-        (nat_eq (length (added smaller larger)) 1 && list_all (λ x. nat_eq (residue e x) i) (added smaller larger)) h).1).1
+        (nat_eq (length (added smaller larger)) 1 && list_all (λ x. nat_eq (residue e x) i) (added smaller larger))
+            h).1).1
 
     one_counted : (j : ℕ) (xs : List Node) → length xs ≡ 1 → list_all (λ x. nat_eq (residue e x) i) xs ≡ true →
         ◌≡◌ {A = ℕ} (count_by (λ x. nat_eq (residue e x) j) xs) (cond (nat_eq i j) 1 0)

@@ -1,5 +1,6 @@
 -- What a restriction takes from a vector: its values at the partitions with a node more, and their sizes.
-use Rattle.std.proofs.Common.{◌≡◌, ◌≢◌, ℕ, ◌+◌, ◌-◌, ◌≤◌, max, fold, true, Bool, cond, List, [], map, filter, sum_by, refl, sym}
+use Rattle.std.proofs.Common.{◌≡◌, ◌≢◌, ℕ, ◌+◌, ◌-◌, ◌≤◌, max, fold, true, Bool, cond, List, [], map, filter, sum_by}
+use Rattle.std.proofs.Common.{refl, sym}
 use Rattle.std.proofs.Common.{◌∙◌, ap, subst, arith, pos, ◌⊎◌, inl, inr, Less, Equal, Greater, false}
 use Rattle.std.proofs.lemmas.Int.{ints}
 use Rattle.std.specs.List.{AllByRecursion}

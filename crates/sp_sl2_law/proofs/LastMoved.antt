@@ -1,5 +1,6 @@
 -- A move of m + 1 nodes, without one of them: a move of m nodes, with its exponent.
-use Rattle.std.proofs.Common.{◌≡◌, ◌≢◌, ℕ, suc, ◌+◌, ◌-◌, ◌*◌, ◌<◌, ◌≤◌, true, false, nat_lt, List, length, sym, ◌∙◌, ap}
+use Rattle.std.proofs.Common.{◌≡◌, ◌≢◌, ℕ, suc, ◌+◌, ◌-◌, ◌*◌, ◌<◌, ◌≤◌, true, false, nat_lt, List, length, sym, ◌∙◌}
+use Rattle.std.proofs.Common.{ap}
 use Rattle.std.proofs.Common.{subst, arith, slice_index, ◌⊎◌, inl, inr, ℤ, pos, ◌+ℤ◌, ◌-ℤ◌, lt-ltb, le-ltb, ltb-true}
 use Rattle.std.proofs.lemmas.Int.{ints}
 use Rattle.sp_defs.specs.Partition.{part, IsPartition}
@@ -13,10 +14,12 @@ use Rattle.sp_power_law.proofs.Gains.{addable_at, addable_facts}
 use Rattle.sp_power_law.proofs.Ends.{RowCase, row_cases}
 use Rattle.sp_sl2_law.proofs.Cross.{same_or_other}
 use Rattle.sp_sl2_law.proofs.OneNode.{Loses, Shrunk, shrinks, corner_of}
-use Rattle.sp_sl2_law.proofs.Longer.{count_to, count_next, sum_to, sum_below, is_longer, longer_count, longer_sum, tilt_after}
+use Rattle.sp_sl2_law.proofs.Longer.{count_to, count_next, sum_to, sum_below, is_longer, longer_count, longer_sum}
+use Rattle.sp_sl2_law.proofs.Longer.{tilt_after}
 use Rattle.sp_sl2_law.proofs.Tilts.{tilt}
 
-module _ (e i m : ℕ) (he : 2 ≤ e) (lambda : List ℕ) (pl : IsPartition lambda) (nu : List ℕ) (pn : IsPartition nu) (s : ℕ)
+module _ (e i m : ℕ) (he : 2 ≤ e) (lambda : List ℕ) (pl : IsPartition lambda) (nu : List ℕ) (pn : IsPartition nu)
+    (s : ℕ)
     (hs : 1 ≤ s) where
   -- ---- rows
 
@@ -97,7 +100,8 @@ module _ (e i m : ℕ) (he : 2 ≤ e) (lambda : List ℕ) (pl : IsPartition lamb
         settle (inr (more, can)) =
             let room : part lambda (s + 1) < part lambda (s + 1 - 1) =
             (addable_facts e i lambda (s + 1) can).room (omega arith) in
-            let here : part lambda (s + 1) < part lambda s = subst (λ n. part lambda (s + 1) < part lambda n) back room in
+            let here : part lambda (s + 1) < part lambda s =
+                subst (λ n. part lambda (s + 1) < part lambda n) back room in
             omega (arith, grown.0)
           where
             back : s + 1 - 1 ≡ s
@@ -165,7 +169,8 @@ module _ (e i m : ℕ) (he : 2 ≤ e) (lambda : List ℕ) (pl : IsPartition lamb
             ∙ le-ltb (part lambda s) (part (shrink (s - 1) nu) s) (omega (arith, grown.0, d.here))
 
         others : (r : ℕ) → r ≢ s - 1 → is_longer lambda (shrink (s - 1) nu) (suc r) ≡ is_longer lambda nu (suc r)
-        others r ne = ap (λ n. nat_lt (part lambda (suc r)) n) (d.elsewhere (suc r) (omega arith) (λ x. ne (omega arith)))
+        others r ne = ap (λ n. nat_lt (part lambda (suc r)) n)
+            (d.elsewhere (suc r) (omega arith) (λ x. ne (omega arith)))
 
         together : (a b x y u v : ℤ) (c c' t m : ℕ) → a ≡ b -ℤ pos (2 * c) → u ≡ x → v ≡ y → t ≡ m + 1 → c' ≡ c + 1 →
             u +ℤ (b -ℤ pos c) ≡ v +ℤ (pos t -ℤ pos c') → a +ℤ x ≡ y +ℤ (pos m -ℤ pos (2 * c))
