@@ -45,7 +45,7 @@ monomial-constant zero = refl
 monomial-constant (suc k) =
     elim (int_eq (pos (suc k)) (pos 0)) as
     (λ b. int_eq (pos (suc k)) (pos 0) ≡ b → cond {A = Laurent} b [] ((pos 0, pos (suc k)) ∷ [])
-        ≡ (pos 0, pos (suc k)) ∷ []) [
+    ≡ (pos 0, pos (suc k)) ∷ []) [
       | true ↦ λ e. absurd (omega (arith, ints, (Decides-int_eq (pos (suc k)) (pos 0)).0 e))
       | false ↦ λ e. refl
     ] refl

@@ -36,7 +36,7 @@ node_more e i smaller larger ps h = record {
         (list_all (λ x. nat_eq (residue e x) i) (added smaller larger))
         (and_split (list_all (in_diagram larger) (nodes smaller))
         (nat_eq (length (added smaller larger)) 1 && list_all (λ x. nat_eq (residue e x) i) (added smaller larger))
-            h).1).1
+        h).1).1
 
     one_counted : (j : ℕ) (xs : List Node) → length xs ≡ 1 → list_all (λ x. nat_eq (residue e x) i) xs ≡ true →
         ◌≡◌ {A = ℕ} (count_by (λ x. nat_eq (residue e x) j) xs) (cond (nat_eq i j) 1 0)

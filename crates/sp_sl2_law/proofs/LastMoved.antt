@@ -101,7 +101,7 @@ module _ (e i m : ℕ) (he : 2 ≤ e) (lambda : List ℕ) (pl : IsPartition lamb
             let room : part lambda (s + 1) < part lambda (s + 1 - 1) =
             (addable_facts e i lambda (s + 1) can).room (omega arith) in
             let here : part lambda (s + 1) < part lambda s =
-                subst (λ n. part lambda (s + 1) < part lambda n) back room in
+            subst (λ n. part lambda (s + 1) < part lambda n) back room in
             omega (arith, grown.0)
           where
             back : s + 1 - 1 ≡ s

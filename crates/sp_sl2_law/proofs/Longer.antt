@@ -61,9 +61,9 @@ module _ (f : ℕ → ℤ) (on off : ℕ → Bool) (q : ℕ) (there : on (suc q)
       here : r ≡ q → count_to off r + cond (off (suc r)) 1 0 + 1 ≡ count_to on r + cond (on (suc r)) 1 0
       here is =
           let a : ◌≡◌ {A = ℕ} (cond (off (suc r)) 1 0) 0 = ap (λ n. cond (off (suc n)) 1 0) is
-              ∙ ap (λ b. cond b 1 0) gone in
+          ∙ ap (λ b. cond b 1 0) gone in
           let b : ◌≡◌ {A = ℕ} (cond (on (suc r)) 1 0) 1 = ap (λ n. cond (on (suc n)) 1 0) is
-              ∙ ap (λ b. cond b 1 0) there in
+          ∙ ap (λ b. cond b 1 0) there in
           omega (arith, a, b, count_above r (omega arith))
 
       settle : (r ≤ q) ⊎ (q < r) → (q < r → count_to off r + 1 ≡ count_to on r) →
@@ -155,7 +155,7 @@ module _ (e i : ℕ) (he : 2 ≤ e) (lambda : List ℕ) (pl : IsPartition lambda
     sum = w.sum;
     before =
         subst (λ n. Before e i lambda n
-            (count_to (is_longer lambda nu) r + cond (is_longer lambda nu (suc r)) 1 0) w.now
+        (count_to (is_longer lambda nu) r + cond (is_longer lambda nu (suc r)) 1 0) w.now
         ((w.difference +ℤ pos (cond (addable_at e i lambda (suc r)) 1 0)) -ℤ pos
         (cond (removable_at e i lambda (suc r)) 1 0)) w.sum) (next r)
         (subst (λ n. Before e i lambda (suc r + 1) n w.now

@@ -57,7 +57,7 @@ total-backwards f (suc n) =
 -- Over the rows that are on, f of the number of those above is f of each number once.
 counted_once : (on : ℕ → Bool) (f : ℕ → ℤ) (n : ℕ) →
     total (from_one_to n) (λ r. cond (on r) (f (count_to on (r - 1))) (pos 0))
-        ≡ total (range_with_len 0 (count_to on n)) f
+    ≡ total (range_with_len 0 (count_to on n)) f
 unfolding total count_to
 counted_once on f zero = refl
 counted_once on f (suc n) =
@@ -187,7 +187,7 @@ module _ (e i m : ℕ) (he : 2 ≤ e) (w : Vector) (nu : List ℕ) (pn : IsParti
         (λ a b. true≢false (sym (lost t a b lo) ∙ is))))
     nodes_total true is =
         total-alike (from_one_to (length nu)) _
-            (λ t. cond (is_longer x nu t) (by_count (count_to (is_longer x nu) (t - 1)))
+        (λ t. cond (is_longer x nu t) (by_count (count_to (is_longer x nu) (t - 1)))
         (pos 0))
         (range_all _ 1 (length nu) (λ t lo hi. row t lo (is_longer x nu t) refl))
         ∙ counted_once (is_longer x nu) by_count (length nu)
@@ -224,7 +224,7 @@ module _ (e i m : ℕ) (he : 2 ≤ e) (w : Vector) (nu : List ℕ) (pn : IsParti
         row t lo true on =
             ap₂ (λ a b. cond a
             (cond b (coefficient (w x) ((z -ℤ tilt e i nu (t - 1)) -ℤ exponent e i x (shrink (t - 1) nu))) (pos 0))
-                (pos 0))
+            (pos 0))
             (facts_removable e i nu t lo (loses e i m he x px nu pn t lo mv on))
             (facts_move e i m x (shrink (t - 1) nu) (shorter_move e i m he x px nu pn t lo mv on))
             ∙ ap (coefficient (w x))
@@ -289,7 +289,7 @@ repeated_power e i (suc (suc m)) he hm w nu pn =
     ∙ ap (times (balanced_factorial (suc m))) (next_power e i (suc m) he w nu pn
     ∙ ap (λ k. times (balanced_natural k) (divided_power e i k w nu)) (turned m))
     ∙ sym (times_assoc (balanced_factorial (suc m)) (balanced_natural (suc (suc m)))
-        (divided_power e i (suc (suc m)) w nu))
+    (divided_power e i (suc (suc m)) w nu))
     ∙ ap (λ q. times q (divided_power e i (suc (suc m)) w nu))
     (times_comm (balanced_factorial (suc m)) (balanced_natural (suc (suc m))))
   where

@@ -27,8 +27,12 @@ loop-column-preserved c =
           (c.index-columns-column.is
           ∙ ap (λ cs. get_or cs (k - 1) p) c.columns-columns.ensures.value
           ∙ get_or_default g.columns (k - 1) p []
-          (omega (arith, c.loop-column-test.true, c.loop-column.auto.column,
-              ap length c.columns-columns.ensures.value)))
+          (omega (
+            arith,
+            c.loop-column-test.true,
+            c.loop-column.auto.column,
+            ap length c.columns-columns.ensures.value,
+          )))
           (c.in_ok-value.ensures ∙ ap (λ q. monomial (pos 0) (value_at_one q)) c.cell.ensures)
           c.loop-column.values.items c.push_nonzero.new.pairs.items (values_below g c.args.line (length g.columns))
           c.in_ok-push_nonzero.ensures.pairs c.loop-column.invariant.values;

@@ -82,7 +82,7 @@ loop-line-preserved c =
     let line = c.loop-line.line in
     let behind : column < line = omega (arith, c.loop-line.auto.line) in
     let within = place_in c.lines-line-end.result.now g.lines line c.lines-line-end.ensures.value
-        c.loop-line-test.true in
+    c.loop-line-test.true in
     let same = c.deref.ensures.value ∙ c.loop-line.invariant.0 in (
       c.in_ok-push_negated-in-Ok.ensures
           ∙ ap (λ xs. xs ++ negate c.in-Ok.sum ∷ []) c.loop-line.invariant.0
