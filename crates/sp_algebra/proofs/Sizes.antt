@@ -1,6 +1,6 @@
 -- The size of a sum, a product and a monomial, and how far their powers lie from 0.
 use Rattle.std.proofs.Common.{◌≡◌, refl, ℕ, zero, suc, ◌+◌, ◌*◌, ◌<◌, ◌≤◌, length, get_or, true, false, cond, [], ◌∷◌}
-use Rattle.std.proofs.Common.{◌++◌}
+use Rattle.std.proofs.Common.{List, ◌++◌}
 use Rattle.std.proofs.Common.{map, sym, ap, subst, arith, ℤ, pos, neg_ℤ, ◌+ℤ◌, ◌*ℤ◌, Less, Equal, Greater, int_cmp}
 use Rattle.std.proofs.Common.{int_eq}
 use Rattle.std.proofs.lemmas.Int.{ints, unsigned_abs-mul}
@@ -8,7 +8,7 @@ use Rattle.std.proofs.lemmas.List.Sums.{sum_by-append, sum_by-cons}
 use Rattle.std.specs.Int.RustNames.{unsigned_abs}
 use Rattle.std.specs.List.{AllByRecursion}
 use Rattle.sp_defs.specs.Laurent.{Laurent, Term, put, placed, add_term, collect, plus, products, times, negate, bar}
-use Rattle.sp_defs.specs.Laurent.{monomial, size}
+use Rattle.sp_defs.specs.Laurent.{monomial, size, sum_over}
 use Rattle.sp_defs.specs.Within.{PowersWithin, ProductWithin}
 use Rattle.sp_lists.proofs.Elements.{all_append}
 use Rattle.sp_algebra.proofs.Coefficients.{by_eq}
@@ -129,6 +129,13 @@ powers_plus P p q hp hq = powers_collect P (p ++ q) (all_append (λ t. P t.0) p 
 -- where the powers of two polynomials are within d of 0, so are those of their sum
 pub within_plus : (d : ℕ) (p q : Laurent) → PowersWithin d p → PowersWithin d q → PowersWithin d (plus p q)
 within_plus d p q hp hq = powers_plus (λ k. unsigned_abs k ≤ d) p q hp hq
+
+-- and where those of all terms of a sum are, so are those of the sum
+pub within_sum : {X : Type 0} (d : ℕ) (f : X → Laurent) (xs : List X) →
+    AllByRecursion (λ x. PowersWithin d (f x)) xs → PowersWithin d (sum_over xs f)
+unfolding sum_over
+within_sum d f [] h = tt
+within_sum d f (x ∷ xs) (h, hs) = within_plus d (f x) (sum_over xs f) h (within_sum d f xs hs)
 
 within_multiples : (d : ℕ) (k c : ℤ) (q : Laurent) → AllByRecursion (λ t. unsigned_abs (k +ℤ t.0) ≤ d) q
     → PowersWithin d (map (λ t. (k +ℤ t.0, c *ℤ t.1)) q)

@@ -9,7 +9,8 @@ use Rattle.std.proofs.lemmas.List.{length-map, map-append}
 use Rattle.sp_defs.specs.Partition.{order}
 use Rattle.sp_blocks.specs.declared.block.Block.{Block}
 use Rattle.sp_blocks.specs.Indexed.{with_rank, cores, Indexed}
-use Rattle.sp_blocks.proofs.Same.{ToldByOrder, order_tells, passes}
+use Rattle.sp_blocks.proofs.Same.{ToldByOrder, order_tells}
+use Rattle.sp_lists.proofs.Comparing.{test_same}
 use Rattle.sp_shapes.proofs.Order.{differ}
 
 -- The block with one rank more.
@@ -22,7 +23,7 @@ at_place : (kappa : List ℕ) (rank : ℕ) (bs : List Block) (i : ℕ) (d : Bloc
 at_place kappa rank [] i d is only = absurd (cc)
 at_place kappa rank (b ∷ bs) zero d is only =
     let same : b.core ≡ kappa = cc in
-    ap (λ v. cond v (longer b rank ∷ bs) (b ∷ with_rank kappa rank bs)) (passes b.core kappa same)
+    ap (λ v. cond v (longer b rank ∷ bs) (b ∷ with_rank kappa rank bs)) (test_same b.core kappa same)
 at_place kappa rank (b ∷ bs) (suc i) d is only =
     ap (λ v. cond v (longer b rank ∷ bs) (b ∷ with_rank kappa rank bs))
     (differ b.core kappa (λ same. apart i (only zero (ap Some same))))

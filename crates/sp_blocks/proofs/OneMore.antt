@@ -5,13 +5,14 @@ use Rattle.std.specs.List.{AllByRecursion, list_any, range_with_len}
 use Rattle.std.specs.Ordering.{is_eq}
 use Rattle.std.proofs.lemmas.List.{append-nil, map-append}
 use Rattle.sp_defs.specs.Partition.{compare}
+use Rattle.sp_lists.proofs.Comparing.{test_same}
 use Rattle.sp_lists.proofs.Elements.{filter_none}
 use Rattle.sp_lists.proofs.Maps.{map-alike}
 use Rattle.sp_lists.proofs.Places.{all_weaken}
 use Rattle.sp_blocks.specs.declared.block.Block.{Block}
 use Rattle.sp_blocks.specs.Blocks.{has_core, places_with, is_first, blocks_below}
 use Rattle.sp_blocks.specs.Indexed.{with_rank}
-use Rattle.sp_blocks.proofs.Same.{Told, tells, passes}
+use Rattle.sp_blocks.proofs.Same.{Told, tells}
 use Rattle.sp_shapes.proofs.Order.{differ}
 use Rattle.sp_blocks.proofs.Firsts.{kept_more, firsts, any_firsts, Apart, firsts_apart}
 
@@ -64,7 +65,7 @@ module _ (core_of : ℕ → List ℕ) where
           ++ new (is_eq (compare (core_of k) (core_of n)) || list_any (has_core core_of (core_of n)) ks)
       settle (inl (t, same)) _ =
           ap (λ v. cond v (added ∷ map (block_at n) ks) (block_at n k ∷ rest)) t
-          ∙ ap₂ (λ b bs. b ∷ bs) (sym (gained n k true (passes (core_of n) (core_of k) (sym same))))
+          ∙ ap₂ (λ b bs. b ∷ bs) (sym (gained n k true (test_same (core_of n) (core_of k) (sym same))))
           (map-alike (block_at n) (block_at (suc n)) ks
           (all_weaken (λ j. core_of j ≢ core_of k) (λ j. block_at n j ≡ block_at (suc n) j) ks
           (λ j ne. stays n j (λ e. ne (sym e ∙ sym same))) h))
@@ -114,5 +115,5 @@ module _ (core_of : ℕ → List ℕ) where
       settle true h = refl
       settle false h =
           ap (λ b. b ∷ [])
-          (gained n n true (passes (core_of n) (core_of n) refl)
+          (gained n n true (test_same (core_of n) (core_of n) refl)
           ∙ ap (λ ranks. record { core = core_of n; ranks = ranks ++ n ∷ [] }) (nothing_yet n (core_of n) h))

@@ -11,12 +11,13 @@ use Rattle.std.proofs.lemmas.List.Folds.{list_any_at}
 use Rattle.std.proofs.lemmas.List.FromFn.{length-range_with_len, get_or-range_with_len}
 use Rattle.std.proofs.lemmas.List.Kept.{IsStrictlyIncreasing-filter}
 use Rattle.std.proofs.lemmas.List.Sums.{sum_by-append}
+use Rattle.sp_lists.proofs.Comparing.{test_same}
 use Rattle.sp_lists.proofs.Elements.{le_or_lt, all_map, all_filter, range_all, range_at, count_zero, all_every}
 use Rattle.sp_lists.proofs.Counts.{count-cons, count-filter, count-alike}
 use Rattle.sp_lists.proofs.Places.{all_weaken}
 use Rattle.sp_lists.proofs.Sums.{sum-one}
 use Rattle.sp_blocks.specs.Blocks.{has_core, places_with, is_first, blocks_below, ArePlaced}
-use Rattle.sp_blocks.proofs.Same.{Told, tells, passes}
+use Rattle.sp_blocks.proofs.Same.{Told, tells}
 use Rattle.sp_shapes.proofs.Order.{differ}
 use Rattle.sp_blocks.proofs.Firsts.{firsts, any_firsts, Apart, firsts_apart}
 use Rattle.sp_blocks.proofs.OneMore.{block_at, none_at}
@@ -93,7 +94,7 @@ module _ (core_of : ℕ → List ℕ) where
       (rest : List ℕ) × (places_with core_of n (core_of f) ≡ f ∷ rest)
   least n f lt first =
       first_kept (has_core core_of (core_of f)) 0 n f (omega arith) (omega arith)
-      (passes (core_of f) (core_of f) refl)
+      (test_same (core_of f) (core_of f) refl)
       (λ j lo hi. range_at (λ k. has_core core_of (core_of f) k ≡ false) 0 f
       (none_at core_of (core_of f) (range_with_len 0 f)
       (not_true (list_any (has_core core_of (core_of f)) (range_with_len 0 f)) first)) j lo (omega arith))
@@ -132,7 +133,7 @@ module _ (core_of : ℕ → List ℕ) where
           (list_any (has_core core_of (core_of k)) fs ≡ true → count_by (λ f. has_core core_of (core_of f) k) fs ≡ 1) →
           cond (has_core core_of (core_of f) k) 1 0 + count_by (λ f. has_core core_of (core_of f) k) fs ≡ 1
       settle (inl (_, same)) _ =
-          ap₂ (λ v m. cond v 1 0 + m) (passes (core_of k) (core_of f) (sym same))
+          ap₂ (λ v m. cond v 1 0 + m) (test_same (core_of k) (core_of f) (sym same))
           (count_zero (λ j. has_core core_of (core_of j) k) fs
           (all_weaken (λ j. core_of j ≢ core_of f) (λ j. has_core core_of (core_of j) k ≡ false) fs
           (λ j ne. differ (core_of k) (core_of j) (λ e. ne (sym e ∙ sym same))) h))
@@ -149,7 +150,7 @@ module _ (core_of : ℕ → List ℕ) where
         (any_firsts core_of n (core_of k)
         ∙ list_any_at (has_core core_of (core_of k)) (range_with_len 0 n) k 0
         (omega (arith, length-range_with_len 0 n))
-        (passes (core_of (get_or (range_with_len 0 n) k 0)) (core_of k)
+        (test_same (core_of (get_or (range_with_len 0 n) k 0)) (core_of k)
         (ap core_of (get_or-range_with_len 0 n k 0 lt ∙ plain k))));
     own = all_map (λ b. AllByRecursion (λ k. (k < n) × (core_of k ≡ b.core)) b.ranks) (block_at core_of n)
         (firsts core_of n)

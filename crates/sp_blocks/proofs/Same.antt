@@ -35,11 +35,3 @@ ToldByOrder x y = ((is_eq (order x y) ≡ true) × (x ≡ y)) ⊎ ((is_eq (order
 pub order_tells : (x y : List ℕ) → ToldByOrder x y
 order_tells x y =
     told (order x y) x y (order_equal x y) (λ e. ap (order x) (sym e) ∙ tied_itself order_total x)
-
--- Equal lists pass the test.
-pub passes : (x y : List ℕ) → x ≡ y → is_eq (compare x y) ≡ true
-passes x y e = settle (tells x y)
-  where
-    settle : Told x y → is_eq (compare x y) ≡ true
-    settle (inl (t, _)) = t
-    settle (inr (_, ne)) = absurd (ne e)

@@ -4,11 +4,11 @@ use Rattle.std.proofs.Common.{true, false, cond, nat_eq, List, [], ◌∷◌, �
 use Rattle.std.proofs.Common.{get_or, sym, ◌∙◌, ap, subst, refl, arith, sum_by, ◌⊎◌, inl, inr, zero-add, add-zero}
 use Rattle.std.proofs.lemmas.List.Sums.{sum_by-append}
 use Rattle.std.proofs.Math.Nat.{mul-zero}
-use Rattle.std.specs.List.{AllByRecursion, range_with_len}
-use Rattle.sp_defs.specs.Laurent.{Laurent, one, negate, times, size, sum_over}
+use Rattle.std.specs.List.{range_with_len}
+use Rattle.sp_defs.specs.Laurent.{Laurent, one, negate, times, size}
 use Rattle.sp_defs.specs.Within.{PowersWithin}
 use Rattle.sp_lists.proofs.Elements.{range_add, le_or_lt}
-use Rattle.sp_algebra.proofs.Sizes.{within_plus, within_negate, within_times, product_within}
+use Rattle.sp_algebra.proofs.Sizes.{within_plus, within_sum, within_negate, within_times, product_within}
 use Rattle.sp_grid_law.specs.Tables.{delta}
 use Rattle.sp_grid_law.specs.Solved.{solution, solved}
 use Rattle.sp_grid_law.proofs.Sums.{all_range}
@@ -18,13 +18,6 @@ use Rattle.sp_grid_law.proofs.Solutions.{earlier, length-solved, solution_step}
 use Rattle.sp_grid_law.proofs.Solutions.{solution_above, solved_at}
 
 -- ---- powers
-
--- Where the powers of all terms are within d of 0, so are those of their sum.
-pub within_sum : {X : Type 0} (d : ℕ) (f : X → Laurent) (xs : List X) →
-    AllByRecursion (λ x. PowersWithin d (f x)) xs → PowersWithin d (sum_over xs f)
-unfolding sum_over
-within_sum d f [] h = tt
-within_sum d f (x ∷ xs) (h, hs) = within_plus d (f x) (sum_over xs f) h (within_sum d f xs hs)
 
 within-delta : (d i j : ℕ) → PowersWithin d (delta i j)
 within-delta d i j = elim (nat_eq i j) as (λ b. PowersWithin d (cond b one [])) [

@@ -3,7 +3,7 @@
 use Rattle.std.proofs.Common.{◌≡◌, ◌≢◌, ℕ, ◌<◌, ◌≤◌, nat_eq, Bool, true, false, not, List, refl, sym, ◌∙◌, ap, subst}
 use Rattle.std.proofs.Common.{arith, Ordering, Less, Equal, Greater}
 use Rattle.std.specs.Ordering.{is_eq, nat_cmp, ordering_index, ordering_reverse, MatchOrdering}
-use Rattle.std.specs.Cmp.{ranks}
+use Rattle.std.specs.Cmp.{ranks, Equal-is}
 use Rattle.std.specs.Cmp.Lexicographic.{pointwise, slice_cmp, same_text, other_text}
 use Rattle.std.specs.FinMap.{slice_cmp-IsAntisymmetric, nat_cmp-IsAntisymmetric}
 use Rattle.std.proofs.lemmas.Cmp.{nat_list_cmp_total}
@@ -32,23 +32,21 @@ equal_self xs = own (slice_cmp nat_cmp xs xs) (nat_list_cmp_total.antisymm xs xs
     own Equal e = refl
     own Greater e = absurd (cc)
 
-is_equal : (o : Ordering) → is_eq o ≡ true → o ≡ Equal
-is_equal Less h = absurd (cc)
-is_equal Equal h = refl
-is_equal Greater h = absurd (cc)
+-- so equal lists pass its test
+pub test_same : (xs ys : List ℕ) → xs ≡ ys → is_eq (slice_cmp nat_cmp xs ys) ≡ true
+test_same xs ys e = ap is_eq (subst (λ zs. slice_cmp nat_cmp xs zs ≡ Equal) e (equal_self xs))
 
 -- Two lists have the same elements exactly where neither is before the other.
 pub same_equality : (xs ys : List ℕ) → pointwise nat_eq xs ys ≡ is_eq (slice_cmp nat_cmp xs ys)
 same_equality xs ys = same_tests (pointwise nat_eq xs ys) (is_eq (slice_cmp nat_cmp xs ys)) one_way other_way
   where
     one_way : pointwise nat_eq xs ys ≡ true → is_eq (slice_cmp nat_cmp xs ys) ≡ true
-    one_way e =
-        ap (λ zs. is_eq (slice_cmp nat_cmp xs zs)) (sym (same_text xs ys (sym e))) ∙ ap is_eq (equal_self xs)
+    one_way e = test_same xs ys (same_text xs ys (sym e))
 
     other_way : is_eq (slice_cmp nat_cmp xs ys) ≡ true → pointwise nat_eq xs ys ≡ true
     other_way e =
         true_from_ne_false (pointwise nat_eq xs ys) (λ h. other_text xs ys (sym h)
-        (slice_cmp-IsAntisymmetric nat_cmp-IsAntisymmetric xs ys (is_equal (slice_cmp nat_cmp xs ys) e)))
+        (slice_cmp-IsAntisymmetric nat_cmp-IsAntisymmetric xs ys ((Equal-is (slice_cmp nat_cmp xs ys)).0 e)))
 
 -- ---- what a test that tells lists apart has said
 

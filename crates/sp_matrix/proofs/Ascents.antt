@@ -10,6 +10,7 @@ use Rattle.std.specs.List.Sorted.{IsPermutation, IsSorted, IsSortedByKey}
 use Rattle.std.specs.Ordering.{ordering_reverse}
 use Rattle.std.specs.Cmp.{Equal-is}
 use Rattle.sp_defs.specs.Partition.{compare, order, Ascending, IsEarlier, IsPartitionOf}
+use Rattle.sp_lists.proofs.Comparing.{test_same}
 use Rattle.sp_lists.proofs.Counts.{count-cons}
 use Rattle.sp_lists.proofs.Elements.{count_zero}
 use Rattle.sp_lists.proofs.Occurrence.{Occurs, all_occur, at_occurs, contains, occurs}
@@ -22,10 +23,6 @@ use Rattle.sp_shapes.proofs.Order.{equal_self, later_than, less_trans, same_list
 -- Lists that pass the test are one.
 pub same_test : (x y : List ℕ) → is_eq (compare x y) ≡ true → x ≡ y
 same_test x y h = same_lists x y ((Equal-is (compare x y)).0 h)
-
--- One list passes it.
-pub test_same : (x y : List ℕ) → x ≡ y → is_eq (compare x y) ≡ true
-test_same x y e = ap is_eq (subst (λ z. compare x z ≡ Equal) e (equal_self x))
 
 itself : (x : List ℕ) → IsEarlier x x → ⊥
 itself x h = let k : Less ≡ Equal = sym h ∙ equal_self x in cc

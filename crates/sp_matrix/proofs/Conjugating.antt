@@ -10,6 +10,7 @@ use Rattle.sp_defs.specs.Partition.{Ascending, IsPartition, IsPartitionOf, compa
 use Rattle.sp_fock_law.specs.Grid.{IsHeading}
 use Rattle.sp_lists.proofs.Counts.{count-alike, count-map}
 use Rattle.sp_lists.proofs.Elements.{all_both, all_every, all_filter, all_map, all_reverse}
+use Rattle.sp_lists.proofs.Comparing.{test_same}
 use Rattle.sp_lists.proofs.Elements.{filter_alike, same_tests}
 use Rattle.sp_lists.proofs.Maps.{filter-reverse}
 use Rattle.sp_lists.proofs.Occurrence.{Occurs, all_occur, at_occurs, from_filter, occurs_filter, occurs_map}
@@ -21,7 +22,7 @@ use Rattle.sp_shapes.proofs.Listing.{Ascending-filter, all_partitions, each_part
 use Rattle.sp_matrix.specs.Conjugates.{conjugates, is_among}
 use Rattle.sp_matrix.specs.Matrix.{lines_of}
 use Rattle.sp_matrix.proofs.Ascents.{all_permuted, occurs_permuted, once, same_ascending, same_test, sorted_ascends}
-use Rattle.sp_matrix.proofs.Ascents.{test_same, times}
+use Rattle.sp_matrix.proofs.Ascents.{times}
 
 -- The conjugate of a partition of n is one too.
 pub conjugate_of_degree : (n : ℕ) (x : List ℕ) → IsPartitionOf n x → IsPartitionOf n (conjugate x)

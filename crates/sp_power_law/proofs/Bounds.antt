@@ -6,12 +6,12 @@ use Rattle.std.proofs.lemmas.Int.{ints}
 use Rattle.std.specs.Int.RustNames.{unsigned_abs}
 use Rattle.std.specs.List.{AllByRecursion, range_with_len}
 use Rattle.sp_defs.specs.Partition.{part, IsPartitionOf}
-use Rattle.sp_defs.specs.Laurent.{Laurent, power, sum_over}
+use Rattle.sp_defs.specs.Laurent.{power}
 use Rattle.sp_defs.specs.Power.{Entries, vector_of, entries, divided_power}
 use Rattle.sp_defs.specs.Signature.{Addable, Removable, Mark, row_marks, signature, add_node}
 use Rattle.sp_defs.specs.Within.{PowersWithin}
 use Rattle.sp_lists.proofs.Elements.{all_append, all_map, all_filter}
-use Rattle.sp_algebra.proofs.Sizes.{within_plus, within_times, product_within, sum_near}
+use Rattle.sp_algebra.proofs.Sizes.{within_sum, within_times, product_within, sum_near}
 use Rattle.sp_shapes.proofs.Degrees.{length-degree}
 use Rattle.sp_lists.proofs.Places.{all_weaken}
 use Rattle.std.proofs.Math.Seq.{get_or-append_seam}
@@ -119,13 +119,6 @@ near_shares e i m n b front (s ∷ es) he (h, hs) (k, ks) =
     (arrivals e i m j es)) (length-append front (s ∷ []))
     (near_shares e i m n b (front ++ (s ∷ [])) es he hs ks)))
 
--- A sum of what is near is near.
-near_sum : {X : Type 0} (b : ℕ) (f : X → Laurent) (xs : List X) → AllByRecursion (λ x. PowersWithin b (f x)) xs →
-    PowersWithin b (sum_over xs f)
-unfolding sum_over
-near_sum b f [] h = tt
-near_sum b f (x ∷ xs) (h, hs) = within_plus b (f x) (sum_over xs f) h (near_sum b f xs hs)
-
 -- What an arrival brings is near where its exponent and the polynomial of its entry are.
 pub near_share : (far b : ℕ) (es : Entries) (t : Arrival) → unsigned_abs t.2 ≤ far →
     PowersWithin b (polynomial_at es t.1) → PowersWithin (far + b) (share_of es t)
@@ -139,7 +132,7 @@ pub near_power : (e i m n b : ℕ) (es : Entries) (nu : List ℕ) → 2 ≤ e �
     PowersWithin (m * (n + 1) + b) (divided_power e i m (vector_of es) nu)
 near_power e i m n b es nu he all same near h =
     subst (λ p. PowersWithin (m * (n + 1) + b) p) (sum_of_arrivals e i m he nu h.partition n h.total es all same)
-    (near_sum (m * (n + 1) + b) (share_of es) (filter (is_at nu) (arrivals e i m 0 es))
+    (within_sum (m * (n + 1) + b) (share_of es) (filter (is_at nu) (arrivals e i m 0 es))
     (all_filter (λ t. PowersWithin (m * (n + 1) + b) (share_of es t)) (is_at nu) (arrivals e i m 0 es)
     (all_weaken (λ t. (unsigned_abs t.2 ≤ m * (n + 1)) × PowersWithin b (polynomial_at es t.1))
     (λ t. is_at nu t ≡ true → PowersWithin (m * (n + 1) + b) (share_of es t)) (arrivals e i m 0 es)

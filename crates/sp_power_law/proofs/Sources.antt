@@ -77,7 +77,8 @@ unit_sizes p [] h = refl
 unit_sizes p (x ∷ xs) (h, hs) =
     sum_by-cons (λ y. size (unit p y)) x xs ∙ ap₂ (λ o n. size (cond (is_eq o) one []) + n) h (unit_sizes p xs hs)
 
-unit_sizes_within : (p : List ℕ) (xs : List (List ℕ)) → Ascending xs → sum_by (λ x. size (unit p x)) xs ≤ 1
+-- So the vector with 1 at one partition has the size of at most one there.
+pub unit_sizes_within : (p : List ℕ) (xs : List (List ℕ)) → Ascending xs → sum_by (λ x. size (unit p x)) xs ≤ 1
 unit_sizes_within p [] up = omega arith
 unit_sizes_within p (x ∷ xs) (first, up) = by_order (compare p x) refl (unit_sizes_within p xs up)
   where

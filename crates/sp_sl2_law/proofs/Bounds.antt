@@ -5,14 +5,13 @@ use Rattle.std.proofs.lemmas.Int.{ints}
 use Rattle.std.proofs.lemmas.List.FromFn.{length-map-range_with_len}
 use Rattle.std.proofs.lemmas.List.Sums.{length-filter, count_by-le-length}
 use Rattle.std.specs.Int.RustNames.{unsigned_abs}
-use Rattle.std.specs.List.{AllByRecursion}
 use Rattle.sp_defs.specs.Partition.{part, degree, from_one_to, IsPartition}
-use Rattle.sp_defs.specs.Laurent.{Laurent, power, times, sum_over, int_sum}
+use Rattle.sp_defs.specs.Laurent.{Laurent, power, times, int_sum}
 use Rattle.sp_defs.specs.Node.{Node, residue, is_addable, is_removable, addable, removable, row_ends}
 use Rattle.sp_defs.specs.Power.{Vector, added, is_move}
 use Rattle.sp_defs.specs.Within.{PowersWithin}
 use Rattle.sp_lists.proofs.Places.{all_weaken}
-use Rattle.sp_algebra.proofs.Sizes.{within_plus, within_times, product_within}
+use Rattle.sp_algebra.proofs.Sizes.{within_sum, within_times, product_within}
 use Rattle.sp_shapes.proofs.CornerRows.{removable-rows}
 use Rattle.sp_shapes.proofs.Degrees.{length-degree}
 use Rattle.sp_shapes.proofs.Moves.{move_facts}
@@ -61,13 +60,6 @@ near_exponent e i smaller larger h = by_list (added smaller larger) (move_facts 
         (omega (arith, few_below e i x.0 (removable smaller), few_removable smaller))
         (omega (arith, few_below e i x.0 (addable smaller), few_addable smaller))
     by_list (x ∷ y ∷ xs) is = absurd (omega arith)
-
--- A sum of what is within a bound is within it.
-within_sum : {X : Type 0} (b : ℕ) (f : X → Laurent) (xs : List X) → AllByRecursion (λ x. PowersWithin b (f x)) xs →
-    PowersWithin b (sum_over xs f)
-unfolding sum_over
-within_sum b f [] h = tt
-within_sum b f (x ∷ xs) (h, hs) = within_plus b (f x) (sum_over xs f) h (within_sum b f xs hs)
 
 -- The powers of a restriction are at most one more than the degree further than those of the vector.
 pub near_restriction : (e i b : ℕ) (w : Vector) (mu : List ℕ) → IsPartition mu →

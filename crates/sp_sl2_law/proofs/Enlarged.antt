@@ -1,27 +1,21 @@
 -- What a restriction takes from a vector: its values at the partitions with a node more, and their sizes.
-use Rattle.std.proofs.Common.{◌≡◌, ◌≢◌, ℕ, ◌+◌, ◌-◌, ◌≤◌, max, fold, true, Bool, cond, List, [], map, filter, sum_by}
-use Rattle.std.proofs.Common.{refl, sym}
-use Rattle.std.proofs.Common.{◌∙◌, ap, subst, arith, pos, ◌⊎◌, inl, inr, Less, Equal, Greater, false}
-use Rattle.std.proofs.lemmas.Int.{ints}
+use Rattle.std.proofs.Common.{◌≡◌, ℕ, ◌+◌, ◌-◌, ◌≤◌, max, fold, true, List, map, filter}
+use Rattle.std.proofs.Common.{ap, subst}
 use Rattle.std.specs.List.{AllByRecursion}
-use Rattle.std.specs.Ordering.{is_eq}
-use Rattle.std.specs.declared.cmp.Ordering.{Ordering}
-use Rattle.sp_defs.specs.Partition.{degree, partitions, compare, Ascending, IsPartitionOf}
+use Rattle.sp_defs.specs.Partition.{degree, partitions, IsPartitionOf}
 use Rattle.sp_defs.specs.Laurent.{Laurent, one, power, times, size}
 use Rattle.sp_defs.specs.Power.{Vector, unit, is_move}
 use Rattle.sp_lists.proofs.Elements.{all_filter, all_every}
 use Rattle.sp_lists.proofs.Greatest.{greatest_within, map_within}
 use Rattle.sp_lists.proofs.Maps.{map-alike}
-use Rattle.sp_lists.proofs.Occurrence.{Occurs}
 use Rattle.sp_lists.proofs.Places.{all_weaken}
-use Rattle.sp_lists.proofs.Sums.{sum-alike, sum-zeros}
+use Rattle.sp_lists.proofs.Sums.{sum-alike}
 use Rattle.sp_algebra.proofs.Sums.{sum_over-alike}
 use Rattle.sp_shapes.proofs.Listing.{all_partitions, partitions_ascend, Ascending-filter}
-use Rattle.sp_shapes.proofs.Order.{differ, same_lists}
+use Rattle.sp_power_law.proofs.Sources.{unit_sizes_within}
 use Rattle.sp_sl2_law.specs.Restriction.{restriction_exponent, enlarged, restriction, restricted_size}
 use Rattle.sp_sl2_law.specs.Restriction.{restriction_weight}
-use Rattle.sp_sl2_law.proofs.Targets.{zeros_or_some}
-use Rattle.sp_sl2_law.proofs.Totals.{total, total-natural, total-ascending_one}
+use Rattle.sp_sl2_law.proofs.Totals.{total}
 
 -- A partition of one degree more to which a move of one node leads.
 pub record IsEnlarged (e i : ℕ) (smaller larger : List ℕ) : Type 0 where
@@ -73,36 +67,6 @@ restriction_weight-alike e i n v w same =
 
 -- ---- one partition
 
--- In an ascending list the vector with 1 at one partition has the size of at most one.
-unit_size : (p : List ℕ) (xs : List (List ℕ)) → Ascending xs → sum_by (λ x. size (unit p x)) xs ≤ 1
-unit_size p xs up = settle (zeros_or_some xs (unit p))
-  where
-    at : (x : List ℕ) → unit p x ≢ [] → p ≡ x
-    at x ne = by_order (compare p x) refl
-      where
-        by_order : (o : Ordering) → compare p x ≡ o → p ≡ x
-        by_order Equal is = same_lists p x is
-        by_order Less is = absurd (ne (ap (λ o. cond (is_eq o) one []) is))
-        by_order Greater is = absurd (ne (ap (λ o. cond (is_eq o) one []) is))
-
-    small : (b : Bool) → size (cond b one []) ≤ 1
-    small true = omega arith
-    small false = omega arith
-
-    settle : AllByRecursion (λ x. unit p x ≡ []) xs ⊎ ((x : List ℕ) × Occurs x xs × (unit p x ≢ [])) →
-        sum_by (λ x. size (unit p x)) xs ≤ 1
-    settle (inl zeros) =
-        let none : sum_by (λ x. size (unit p x)) xs ≡ 0 =
-        sum-alike (λ x. size (unit p x)) (λ _. 0) xs
-        (all_weaken (λ x. unit p x ≡ []) (λ x. ◌≡◌ {A = ℕ} (size (unit p x)) 0) xs (λ x z. ap size z) zeros)
-        ∙ sum-zeros xs in
-        omega arith
-    settle (inr (x, o, ne)) =
-        let one_there : total xs (λ y. pos (size (unit p y))) ≡ pos (size (unit p x)) =
-        total-ascending_one (λ y. pos (size (unit p y))) x xs up o
-        (λ y other. ap (λ b. pos (size (cond b one []))) (differ p y (λ same. other (sym same ∙ at x ne)))) in
-        omega (arith, ints, total-natural xs (λ y. size (unit p y)), one_there, small (is_eq (compare p x)))
-
 -- A restriction of one partition is never too large, since a limit is at least 1.
 pub unit_weight : (e i : ℕ) (p : List ℕ) → restriction_weight e i (degree p) (unit p) ≤ 1
 unfolding enlarged
@@ -110,5 +74,5 @@ unit_weight e i p =
     greatest_within 1 (map (restricted_size e i (unit p)) (partitions (degree p - 1)))
     (map_within (restricted_size e i (unit p)) 1 (partitions (degree p - 1))
     (all_every (λ x. restricted_size e i (unit p) x ≤ 1) (partitions (degree p - 1))
-    (λ x. unit_size p (filter (λ y. is_move e i 1 x y) (partitions (degree x + 1)))
+    (λ x. unit_sizes_within p (filter (λ y. is_move e i 1 x y) (partitions (degree x + 1)))
     (Ascending-filter (λ y. is_move e i 1 x y) (partitions (degree x + 1)) (partitions_ascend (degree x + 1))))))
