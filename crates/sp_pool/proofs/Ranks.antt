@@ -11,6 +11,7 @@ use Rattle.std.proofs.lemmas.List.Kept.{IsStrictlyIncreasing-filter}
 use Rattle.std.proofs.lemmas.Option.{slice_get_within, get_or_from_slice_get}
 use Rattle.sp_defs.specs.Partition.{compare}
 use Rattle.sp_defs.specs.Abacus.{core}
+use Rattle.sp_lists.proofs.Comparing.{test_same}
 use Rattle.sp_lists.proofs.Elements.{all_both, all_every, all_map, range_all}
 use Rattle.sp_lists.proofs.Occurrence.{Occurs, at_occurs, occurs_filter, from_filter, occurs_range, contains, occurs}
 use Rattle.sp_lists.proofs.Places.{all_weaken}
@@ -22,7 +23,7 @@ use Rattle.sp_blocks.specs.declared.block.Block.{Block}
 use Rattle.sp_blocks.specs.Blocks.{core_at, has_core, is_first}
 use Rattle.sp_blocks.proofs.OneMore.{block_at}
 use Rattle.sp_blocks.proofs.Placed.{are_placed}
-use Rattle.sp_blocks.proofs.Same.{Told, tells, passes}
+use Rattle.sp_blocks.proofs.Same.{Told, tells}
 use Rattle.sp_llt.specs.Place.{IsKey, IsPlace, place, label, labels, Progress}
 use Rattle.sp_llt.proofs.Asks.{NextFacts, next_facts}
 use Rattle.sp_llt.proofs.Labels.{LabelFacts, label_facts, place_of, by_degree, few_labels}
@@ -80,7 +81,7 @@ module _ (key : Key) (kappa : List ℕ) where
   pub rank_there : (k : ℕ) → RankFacts key kappa k → Occurs k (ranks_with key kappa)
   rank_there k f =
       occurs_filter (has_core (core_at key.e (labels key)) kappa) k (range_with_len 0 (length (labels key)))
-      (passes (core_at key.e (labels key) k) kappa f.of)
+      (test_same (core_at key.e (labels key) k) kappa f.of)
       (occurs_range k 0 (length (labels key)) (omega arith) (omega (arith, f.within)))
 
   -- What is asked for on the way to one of them is one of them, and an earlier one.

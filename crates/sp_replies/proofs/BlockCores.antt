@@ -14,6 +14,7 @@ use Rattle.std.proofs.lemmas.List.Sums.{length-filter}
 use Rattle.std.proofs.lemmas.Nat.{div-mul-add}
 use Rattle.sp_defs.specs.Partition.{IsPartitionOf, compare, degree, order, partitions}
 use Rattle.sp_defs.specs.Abacus.{core, weight}
+use Rattle.sp_lists.proofs.Comparing.{test_same}
 use Rattle.sp_lists.proofs.Counts.{count-cons, count-map}
 use Rattle.sp_lists.proofs.Elements.{all_filter, all_map, all_reverse, count_zero, range_all}
 use Rattle.sp_lists.proofs.Maps.{map-reverse}
@@ -26,7 +27,7 @@ use Rattle.sp_abacus_law.proofs.Weight.{core-partition, degree-core}
 use Rattle.sp_partition.specs.OrderLaws.{order_equal, order_total}
 use Rattle.sp_blocks.specs.declared.block.Block.{Block}
 use Rattle.sp_blocks.specs.Blocks.{core_at, has_core, is_first, blocks_of}
-use Rattle.sp_blocks.proofs.Same.{Told, tells, passes}
+use Rattle.sp_blocks.proofs.Same.{Told, tells}
 use Rattle.sp_blocks.proofs.Firsts.{Apart, any_firsts, firsts, firsts_apart}
 use Rattle.sp_blocks.proofs.OneMore.{block_at}
 use Rattle.sp_replies.specs.Blocks.{IsBlock, block_line, block_weight, blocks_text, cores_of, is_core_of, is_in_block}
@@ -65,10 +66,10 @@ before x y xs o h once = settle (order y.core x.core) refl
     settle Equal is =
         let two : count_by (has x.core) (x ∷ xs) ≡ 1 + count_by (has x.core) xs =
         count-cons (has x.core) x xs
-        ∙ ap (λ v. cond v 1 0 + count_by (has x.core) xs) (passes x.core x.core refl) in
+        ∙ ap (λ v. cond v 1 0 + count_by (has x.core) xs) (test_same x.core x.core refl) in
         let more : 1 ≤ length (filter (has x.core) xs) =
         occurs_some y (filter (has x.core) xs)
-        (occurs_filter (has x.core) y xs (passes y.core x.core (order_equal y.core x.core is)) o) in
+        (occurs_filter (has x.core) y xs (test_same y.core x.core (order_equal y.core x.core is)) o) in
         absurd (omega (arith, two, more, once, length-filter (has x.core) xs))
     settle Greater is = order_total.antisymm x.core y.core ∙ ap ordering_reverse is
 
@@ -164,7 +165,7 @@ module _ (e n : ℕ) (he : 2 ≤ e) where
           occurs_filter (is_core_of e n) (core e p) (partitions_up_to n)
           (some_passes (is_in_block e (core e p)) p (partitions n)
           (all_at (λ q. Occurs q (partitions n)) (partitions n) k [] (all_occur (partitions n)) lt)
-          (passes (core e p) (core e p) refl))
+          (test_same (core e p) (core e p) refl))
           (up_to_listed n (core e p) (core-partition e p) (core_small e n p he (partition_at k lt)))
 
   -- each core is that of a block
