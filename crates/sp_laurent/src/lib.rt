@@ -11,8 +11,8 @@ ghost use Rattle.sp_defs.specs.Within.{PowersWithin, ProductWithin};
 ghost use Rattle.sp_laurent.specs.Held.{IsHeld, power_limit};
 
 use crate::mirror::{lifted, negated, push_mirrored, shifted};
-use crate::products::{add_multiple, add_product};
-use crate::sums::{is_within, push_term, size_of, split_below, split_first};
+use crate::products::add_product;
+use crate::sums::{is_within, push_term, split_below, split_first};
 use crate::text::print_terms;
 use std::alloc::{AllocError, Global};
 use std::marker::Model;
@@ -29,7 +29,8 @@ mod values;
 
 pub use fault::{LaurentFault, ParseFault};
 pub use law::values_law;
-pub use sums::without_product;
+pub use products::add_multiple;
+pub use sums::{size_of, without_product};
 pub use text::print_term;
 pub use values::TooLarge;
 
@@ -40,7 +41,7 @@ pub const POWER_LIMIT: i32 = 1_000_000_000;
 pub const READ_LIMIT: i32 = 10_000_000;
 
 /// A power of v, and its coefficient.
-type Term = (i32, i128);
+pub type Term = (i32, i128);
 
 /// A Laurent polynomial: its terms are pairs of a power of v and the coefficient there, which isn't 0, in ascending
 /// order of powers.

@@ -60,11 +60,7 @@ fn add_at(
 }
 
 /// Adds a term's multiple of `others`, in one pass over the terms.
-pub(crate) fn add_multiple(
-    terms: &mut Vec<Term>,
-    term: Term,
-    others: &[Term],
-) -> Result<(), AllocError>
+pub fn add_multiple(terms: &mut Vec<Term>, term: Term, others: &[Term]) -> Result<(), AllocError>
     requires laurent { IsLaurent terms.old.items }
     requires others_laurent { IsLaurent others.now }
     requires fits { size terms.old.items + unsigned_abs term.1 * size others.now < 2 ^ 127 }

@@ -8,7 +8,7 @@ use crate::Term;
 use std::alloc::{AllocError, Global};
 
 /// The sum of the absolute values of the coefficients.
-pub(crate) fn size_of(terms: &[Term]) -> u128
+pub fn size_of(terms: &[Term]) -> u128
     requires { size terms.now < 2 ^ 127 }
     ensures { result ≡ size terms.now }
 {

@@ -1,0 +1,5 @@
+pub mod Ranks
+pub mod Moves
+pub mod Polynomials
+pub mod Vectors
+pub mod Arrivals
