@@ -1,7 +1,7 @@
 // Vectors over ranks.
 ghost use Rattle.std.specs.Prelude.{◌≡◌, ◌<◌, ◌≤◌, ◌++◌, ◌∷◌, [], length, get_or, IfOk, OnOk};
 ghost use Rattle.sp_defs.specs.Partition.{partitions};
-ghost use Rattle.sp_defs.specs.Power.{fock_vector, unit};
+ghost use Rattle.sp_defs.specs.Power.{fock_vector, unit, IsVector};
 ghost use Rattle.sp_laurent.specs.Held.{IsHeld};
 ghost use Rattle.sp_ranks.specs.Ranks.{partition_at};
 
@@ -61,7 +61,8 @@ impl RankVector {
 
     /// It takes no memory.
     pub fn degree(&self) -> u8
-        ensures { result ≡ self.now.degree }
+        ensures value { result ≡ self.now.degree }
+        ensures held { IsVector self.now.degree self.now.entries }
     {
         self.degree
     }
