@@ -67,7 +67,8 @@ impl Moves {
     /// The partitions of a degree, ascending: their places are the ranks. It takes no memory.
     pub fn partitions(&self, n: u8) -> &[Partition]
         requires { n ≤ self.now }
-        ensures { result.now ≡ partitions n }
+        ensures list { result.now ≡ partitions n }
+        ensures most { self.now ≤ DEGREE_LIMIT }
     {
         &self.lists[usize::from(n)]
     }

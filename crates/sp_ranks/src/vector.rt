@@ -1,5 +1,5 @@
 // Vectors over ranks.
-ghost use Rattle.std.specs.Prelude.{◌≡◌, ◌<◌, ◌≤◌, ◌++◌, ◌∷◌, [], length, get_or, IfOk, OnOk};
+ghost use Rattle.std.specs.Prelude.{◌≡◌, ◌^◌, ◌<◌, ◌≤◌, ◌++◌, ◌∷◌, [], length, get_or, IfOk, OnOk};
 ghost use Rattle.sp_defs.specs.Partition.{partitions};
 ghost use Rattle.sp_defs.specs.Power.{fock_vector, unit, IsVector};
 ghost use Rattle.sp_laurent.specs.Held.{IsHeld};
@@ -69,7 +69,8 @@ impl RankVector {
 
     /// How many partitions it has. It takes no memory.
     pub fn count(&self) -> usize
-        ensures { result ≡ length self.now.entries }
+        ensures value { result ≡ length self.now.entries }
+        ensures few { result ≤ 2 ^ 16 }
     {
         self.ranks.len()
     }
