@@ -4,6 +4,7 @@ use Rattle.std.specs.List.{AllByRecursion}
 use Rattle.sp_defs.specs.Laurent.{Laurent}
 use Rattle.sp_defs.specs.Partition.{partitions}
 use Rattle.sp_defs.specs.Power.{Entries}
+use Rattle.sp_laurent.specs.Held.{IsHeld}
 use Rattle.sp_partition.specs.declared.TheConstants.{DEGREE_LIMIT}
 use Rattle.sp_ranks.specs.Ranks.{partition_at}
 
@@ -18,10 +19,14 @@ abbrev pub Climbs : List ℕ → Type 0
 Climbs [] = Unit {0}
 Climbs (rank ∷ ranks) = AllByRecursion (λ other. rank < other) ranks × Climbs ranks
 
+-- A polynomial that may be held and isn't 0.
+abbrev pub IsHeldNonzero : Laurent → Type 0
+IsHeldNonzero p = IsHeld p × (p ≢ [])
+
 -- One polynomial that isn't 0 for each of the ranks, which ascend.
 pub record IsOverRanks (n : ℕ) (ranks : List ℕ) (ps : List Laurent) : Type 0 where
   pub small : n ≤ DEGREE_LIMIT
   pub count : length ranks ≡ length ps
   pub climbs : Climbs ranks
   pub there : AllByRecursion (λ rank. rank < length (partitions n)) ranks
-  pub nonzero : AllByRecursion (λ p. p ≢ []) ps
+  pub polynomials : AllByRecursion IsHeldNonzero ps
