@@ -1,2 +1,4 @@
 pub mod Pieces
 pub mod Overs
+pub mod Walks
+pub mod Sources

@@ -1,5 +1,6 @@
 -- What moves over ranks are as moves of partitions.
 use Rattle.std.specs.Prelude.{ℕ, ◌+◌, ◌<◌, ◌≤◌, List, [], map, length, unsigned_abs, ℤ}
+use Rattle.std.specs.List.{AllByRecursion}
 use Rattle.sp_defs.specs.Laurent.{Laurent, power, times, size}
 use Rattle.sp_defs.specs.Power.{Entries}
 use Rattle.sp_defs.specs.Partition.{partitions}
@@ -19,6 +20,10 @@ arrival_at n t = (partition_at n t.rank, t.source, t.exponent)
 
 abbrev pub arrivals_at : ℕ → List Arrival → List PartitionArrival
 arrivals_at n ts = map (arrival_at n) ts
+
+-- All lead to ranks of partitions of n.
+abbrev pub AreThere : ℕ → List Arrival → Type 0
+AreThere n ts = AllByRecursion (λ t. t.rank < length (partitions n)) ts
 
 -- The moves from a source that choose m more nodes, down these marks, from a way whose partition is of degree n.
 abbrev pub found_at : ℕ → ℕ → List Mark → ℕ → Way → List PartitionArrival

@@ -7,10 +7,11 @@ ghost use Rattle.sp_nodes.specs.Marks.{mark_of};
 ghost use Rattle.sp_power_law.specs.Walk.{CanGrow};
 ghost use Rattle.sp_power_law.specs.Runs.{arrivals};
 ghost use Rattle.sp_ranks.specs.Ranks.{partition_at};
-ghost use Rattle.sp_ranks.specs.Arrivals.{arrivals_at, found_at};
+ghost use Rattle.sp_ranks.specs.Arrivals.{arrivals_at, found_at, AreThere};
 
 use crate::{Moves, RankVector};
 use sp_nodes::{Corner, Mark, marks};
+use sp_partition::DEGREE_LIMIT;
 use std::alloc::{AllocError, Global};
 
 /// A move that leads to the partition of a rank: the place in the vector that it comes from, and its exponent.
@@ -78,10 +79,12 @@ fn push_moves(
     requires rank { way.rank < length (partitions n) }
     requires grows { CanGrow (map mark_of marks.now) (partition_at n way.rank) }
     requires room { n + left ≤ moves.now }
+    requires small_degree { moves.now ≤ DEGREE_LIMIT }
     requires near { unsigned_abs way.difference + length marks.now ≤ 33 }
     requires small { unsigned_abs way.exponent + left * 33 ≤ 2000 }
-    ensures { OnOk result (arrivals_at (n + left) found.new.items ≡
+    ensures found { OnOk result (arrivals_at (n + left) found.new.items ≡
         arrivals_at (n + left) found.old.items ++ found_at n source marks.now left way) }
+    ensures there { OnOk result (AreThere (n + left) found.old.items → AreThere (n + left) found.new.items) }
 {
     if left == 0 {
         found.push(Arrival {
