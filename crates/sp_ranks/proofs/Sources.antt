@@ -1,6 +1,6 @@
 -- The loop over the places of a vector: what is found, and what is still to come.
-use Rattle.std.proofs.Common.{◌≡◌, ℕ, ◌+◌, ◌<◌, ◌≤◌, List, [], ◌++◌, map, length, drop, get_or, sym, ◌∙◌, ap, subst}
-use Rattle.std.proofs.Common.{arith, pos}
+use Rattle.std.proofs.Common.{◌≡◌, ℕ, ◌+◌, ◌<◌, ◌≤◌, List, [], ◌++◌, map, length, drop, get_or, sym, ◌∙◌, ap, ap₂}
+use Rattle.std.proofs.Common.{subst, pos}
 use Rattle.std.proofs.lemmas.List.{get_or_default}
 use Rattle.sp_lists.proofs.Places.{all_at}
 use Rattle.sp_defs.specs.Partition.{partitions, IsPartitionOf}
@@ -23,10 +23,19 @@ use Rattle.sp_ranks.specs.declared.walk.Way.{Way}
 pub partition_of : (n rank : ℕ) → rank < length (partitions n) → IsPartitionOf n (partition_at n rank)
 partition_of n rank there = all_at (IsPartitionOf n) (partitions n) rank [] (all_partitions n) there
 
+-- The marks of the partition of a rank are its signature.
+pub marks_at : (e i n rank place : ℕ) (all : List (List ℕ)) (marks found : List Mark) (p : List ℕ) →
+    rank < length (partitions n) → all ≡ partitions n → place ≡ rank → p ≡ get_or all place p →
+    map mark_of found ≡ signature e i p → marks ≡ found → map mark_of marks ≡ signature e i (partition_at n rank)
+marks_at e i n rank place all marks found p there list same_place at is same =
+    ap (map mark_of) same ∙ is
+    ∙ ap (signature e i)
+    (at ∙ ap₂ (λ l k. get_or l k p) list same_place ∙ get_or_default (partitions n) rank p [] there)
+
 -- Down the signature of a partition each node can be added in its turn.
-pub grows_from : (e i n rank : ℕ) (marks : List Mark) → 2 ≤ e → rank < length (partitions n) →
+pub grows_at : (e i n rank : ℕ) (marks : List Mark) → 2 ≤ e → rank < length (partitions n) →
     map mark_of marks ≡ signature e i (partition_at n rank) → CanGrow (map mark_of marks) (partition_at n rank)
-grows_from e i n rank marks he there is =
+grows_at e i n rank marks he there is =
     subst (λ l. CanGrow l (partition_at n rank)) (sym is)
     (can_grow e i (partition_at n rank) he (partition_of n rank there).partition)
 

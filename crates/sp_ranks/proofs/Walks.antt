@@ -1,6 +1,7 @@
 -- One mark down a signature, over ranks: what is found is found by the moves of partitions.
-use Rattle.std.proofs.Common.{◌≡◌, ◌≢◌, ℕ, ◌+◌, ◌-◌, ◌<◌, ◌≤◌, List, [], ◌∷◌, ◌++◌, map, length, sym, ◌∙◌, ap, ap₂, subst}
-use Rattle.std.proofs.Common.{arith, ℤ, pos, ◌+ℤ◌, ◌-ℤ◌}
+use Rattle.std.proofs.Common.{◌≡◌, ◌≢◌, ℕ, ◌+◌, ◌-◌, ◌<◌, ◌≤◌, List, [], ◌∷◌, ◌++◌, map, length, sym, ◌∙◌, ap, ap₂}
+use Rattle.std.proofs.Common.{subst, arith, refl, ◌*◌, ℤ, pos, ◌+ℤ◌, ◌-ℤ◌, w32}
+use Rattle.std.specs.Int.RustNames.{unsigned_abs}
 use Rattle.std.proofs.lemmas.List.{map-append}
 use Rattle.sp_defs.specs.Partition.{partitions}
 use Rattle.sp_defs.specs.Signature.{grow}
@@ -11,7 +12,8 @@ use Rattle.sp_nodes.specs.Marks.{mark_of}
 use Rattle.sp_power_law.specs.Walk.{moves_through}
 use Rattle.sp_power.specs.Arrivals.{arrive_from}
 use Rattle.sp_power.proofs.Descent.{first_of, below, moves-none_left, moves-no_marks, moves-addable, moves-removable}
-use Rattle.sp_power.proofs.Descent.{same_moves, arrivals-none, arrivals-both}
+use Rattle.sp_power.proofs.Descent.{same_moves, arrivals-none, arrivals-both, read_exponent, exponent_room}
+use mir.Val.{to_z, of_z}
 use Rattle.sp_ranks.specs.Ranks.{partition_at}
 use Rattle.sp_ranks.specs.Arrivals.{arrival_at, arrivals_at, found_at, AreThere}
 use Rattle.sp_ranks.specs.declared.walk.Arrival.{Arrival}
@@ -23,14 +25,23 @@ none_more n left none = omega arith
 one_more : (n left : ℕ) → left ≢ 0 → n + 1 + (left - 1) ≡ n + left
 one_more n left some = omega arith
 
+-- An exponent and a difference in the type of the code sum up as they do.
+pub read_sum : (x d : ℤ) (left n : ℕ) → unsigned_abs d + n ≤ 33 → unsigned_abs x + left * 33 ≤ 2000 → left ≢ 0 →
+    to_z w32 (of_z w32 (to_z w32 (of_z w32 x) +ℤ to_z w32 (of_z w32 d))) ≡ x +ℤ d
+read_sum x d left n near small some =
+    ap₂ (λ a b. to_z w32 (of_z w32 (a +ℤ b))) (read_exponent x (omega (arith, small)))
+    (read_exponent d (omega (arith, near)))
+    ∙ read_exponent (x +ℤ d) (omega (arith, exponent_room x d (x +ℤ d) left n refl near small some))
+
 -- ---- no node is left to choose, or no mark
 
 -- The way is the one move that is found.
-pub found-way : (n source left : ℕ) (marks : List Mark) (way : Way) (old new : List Arrival) → left ≡ 0 →
-    new ≡ old ++ (record { rank = way.rank; source = source; exponent = way.exponent } ∷ []) →
+pub found-way : (n source left : ℕ) (marks : List Mark) (way : Way) (x : ℤ) (old new : List Arrival) → left ≡ 0 →
+    x ≡ way.exponent → new ≡ old ++ (record { rank = way.rank; source = source; exponent = x } ∷ []) →
     arrivals_at (n + left) new ≡ arrivals_at (n + left) old ++ found_at n source marks left way
-found-way n source left marks way old new none is =
-    ap (arrivals_at (n + left)) is
+found-way n source left marks way x old new none same_x is =
+    ap (arrivals_at (n + left))
+    (is ∙ ap (λ y. old ++ (record { rank = way.rank; source = source; exponent = y } ∷ [])) same_x)
     ∙ map-append (arrival_at (n + left)) old (record { rank = way.rank; source = source; exponent = way.exponent } ∷ [])
     ∙ ap (λ l. arrivals_at (n + left) old ++ l)
     (ap (λ k. (partition_at k way.rank, source, way.exponent) ∷ []) (sym (none_more n left none))

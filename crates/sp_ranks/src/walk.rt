@@ -1,6 +1,6 @@
 // All moves from the partitions of a vector, down their signatures: each addable node is chosen or passed.
-ghost use Rattle.std.specs.Prelude.{◌≡◌, ◌+◌, ◌-◌, ◌*◌, ◌<◌, ◌≤◌, ◌++◌, map, length, IfOk, OnOk};
-ghost use Rattle.std.specs.Prelude.{unsigned_abs, pos, ◌+ℤ◌};
+ghost use Rattle.std.specs.Prelude.{◌≡◌, ◌+◌, ◌*◌, ◌<◌, ◌≤◌, ◌++◌, map, length, IfOk, OnOk};
+ghost use Rattle.std.specs.Prelude.{unsigned_abs, ◌+ℤ◌};
 ghost use Rattle.std.specs.List.{AllByRecursion};
 ghost use Rattle.sp_defs.specs.Partition.{partitions};
 ghost use Rattle.sp_nodes.specs.Marks.{mark_of};
@@ -51,7 +51,8 @@ pub(crate) fn all_moves(
     ensures there { IfOk result
         (λ found. AllByRecursion (λ t. t.rank < length (partitions (v.now.degree + m))) found.items) }
 {
-    let all = moves.partitions(v.degree());
+    let n = v.degree();
+    let all = moves.partitions(n);
     let mut found = Vec::new(alloc);
     for source in 0..v.count() {
         let rank = v.rank(source);
@@ -61,7 +62,7 @@ pub(crate) fn all_moves(
             difference: 0,
             exponent: 0,
         };
-        push_moves(&mut found, moves, v.degree(), source as u32, &marks, m, way)?;
+        push_moves(&mut found, moves, n, source as u32, &marks, m, way)?;
     }
     Ok(found)
 }
