@@ -2,3 +2,4 @@ pub mod Pieces
 pub mod Overs
 pub mod Walks
 pub mod Sources
+pub mod Gains

@@ -1,11 +1,11 @@
 // To which partitions of the next degree each partition grows, by ranks.
-ghost use Rattle.std.specs.Prelude.{◌≡◌, ◌+◌, ◌-◌, ◌<◌, ◌≤◌, true, length, map, get_or, IfOk};
-ghost use Rattle.std.specs.List.{AllByRecursion};
+ghost use Rattle.std.specs.Prelude.{◌≡◌, ℕ, ◌+◌, ◌-◌, ◌<◌, ◌≤◌, true, length, IfOk};
 ghost use Rattle.sp_defs.specs.Node.{is_addable};
-ghost use Rattle.sp_defs.specs.Partition.{part as part_of, partitions};
+ghost use Rattle.sp_defs.specs.Partition.{degree as degree_of, part as part_of, partitions};
 ghost use Rattle.sp_defs.specs.Signature.{grow};
 ghost use Rattle.sp_ranks.specs.Ranks.{partition_at};
-ghost use Rattle.sp_ranks.specs.Moves.{AreGains, AreRows, IsGain};
+ghost use Rattle.sp_ranks.specs.Moves.{AreGains, AreLists, AreRows, AreTables, IsGain};
+ghost use Rattle.sp_partition.specs.declared.TheConstants.{DEGREE_LIMIT};
 
 use sp_partition::{DEGREE_LIMIT, Partition, all_of, rank};
 use std::alloc::{AllocError, Global};
@@ -41,14 +41,8 @@ impl Moves {
         requires { degree ≤ DEGREE_LIMIT }
         ensures { IfOk result (λ moves. moves ≡ degree) }
     {
-        let mut lists = Vec::new(alloc);
-        for n in 0..degree + 1 {
-            lists.push(all_of(alloc, n)?)?;
-        }
-        let mut gains = Vec::new(alloc);
-        for n in 0..degree {
-            gains.push(gains_of(alloc, &lists[usize::from(n)], &lists[usize::from(n) + 1])?)?;
-        }
+        let lists = lists_below(alloc, degree + 1)?;
+        let gains = gains_below(alloc, degree, &lists)?;
         Ok(Moves {
             degree,
             lists,
@@ -85,13 +79,42 @@ impl Moves {
     }
 }
 
+// The partitions of each degree below n.
+fn lists_below(alloc: Global, n: u8) -> Result<Vec<Vec<Partition>>, AllocError>
+    requires { n ≤ DEGREE_LIMIT + 1 }
+    ensures { IfOk result (λ lists. AreLists n lists.items) }
+{
+    let mut lists = Vec::with_capacity(alloc, usize::from(n))?;
+    for degree in 0..n {
+        lists.push(all_of(alloc, degree)?)?;
+    }
+    Ok(lists)
+}
+
+// For each degree below n, for each of its partitions, the ranks that it grows to.
+fn gains_below(
+    alloc: Global,
+    n: u8,
+    lists: &[Vec<Partition>],
+) -> Result<Vec<Vec<Vec<u16>>>, AllocError>
+    requires small { n ≤ DEGREE_LIMIT }
+    requires lists { AreLists (n + 1) lists.now }
+    ensures { IfOk result (λ gains. AreTables n gains.items) }
+{
+    let mut gains = Vec::with_capacity(alloc, usize::from(n))?;
+    for degree in 0..usize::from(n) {
+        gains.push(gains_of(alloc, &lists[degree], &lists[degree + 1])?)?;
+    }
+    Ok(gains)
+}
+
 // For each partition of a degree the ranks that it grows to. `next` are the partitions of the next degree.
 fn gains_of(
     alloc: Global,
     all: &[Partition],
     next: &[Partition],
 ) -> Result<Vec<Vec<u16>>, AllocError>
-    requires all { (n : ℕ) × (all.now ≡ partitions n) × (next.now ≡ partitions (n + 1)) × (n < 30) }
+    requires { (n : ℕ) × (all.now ≡ partitions n) × (next.now ≡ partitions (n + 1)) × (n < DEGREE_LIMIT) }
     ensures { IfOk result (λ gains. AreRows next.now all.now gains.items) }
 {
     let mut gains = Vec::with_capacity(alloc, all.len())?;
@@ -103,6 +126,8 @@ fn gains_of(
 
 // For each row of a partition, and the next one, the rank that it grows to there, or 0 where nothing can be added.
 fn gains_in_rows(alloc: Global, p: &Partition, next: &[Partition]) -> Result<Vec<u16>, AllocError>
+    requires small { degree_of p.now < DEGREE_LIMIT }
+    requires next { next.now ≡ partitions (degree_of p.now + 1) }
     ensures { IfOk result (λ gains. AreGains next.now p.now gains.items) }
 {
     let count = p.row_count() + 1;
@@ -115,7 +140,8 @@ fn gains_in_rows(alloc: Global, p: &Partition, next: &[Partition]) -> Result<Vec
 
 // The rank of the partition with a node more in this row, or 0 where there is none.
 fn gain(p: &Partition, row: u8, next: &[Partition]) -> u16
-    requires few { length next.now ≤ 2 ^ 16 }
+    requires small { degree_of p.now < DEGREE_LIMIT }
+    requires next { next.now ≡ partitions (degree_of p.now + 1) }
     ensures { IsGain next.now p.now row result }
 {
     match p.add_node(row) {
