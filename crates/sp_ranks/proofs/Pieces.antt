@@ -94,23 +94,23 @@ pieces_more start (end ∷ ends) last next terms more (h, hs) is after =
     few : end - start ≤ length terms
     few = omega (arith, start_before end ends last hs)
 
--- The polynomials with one more, in their fields.
-pub are_pieces_more : (ends : List ℕ) (terms more : List Term) (next : ℕ) → ArePieces ends terms → IsHeld more →
-    next ≡ length (terms ++ more) → ArePieces (ends ++ (next ∷ [])) (terms ++ more)
-are_pieces_more ends terms more next h held is = record {
-  ends = subst (AreEnds 0 (ends ++ (next ∷ []))) is
-      (ends_more 0 ends (length terms) next h.ends (omega (arith, length-append terms more)));
-  held = subst (AllByRecursion IsHeld) (sym (pieces_pushed ends terms more next h is))
-      (all_append IsHeld (pieces 0 ends terms) (more ∷ []) h.held (held, tt));
-}
-
 -- What they are seen as.
 pub pieces_pushed : (ends : List ℕ) (terms more : List Term) (next : ℕ) → ArePieces ends terms →
     next ≡ length (terms ++ more) →
     pieces 0 (ends ++ (next ∷ [])) (terms ++ more) ≡ pieces 0 ends terms ++ (more ∷ [])
 pieces_pushed ends terms more next h is =
-    pieces_more 0 ends (length terms) next terms more h.ends (omega arith)
+    pieces_more 0 ends (length terms) next terms more h.ascending (omega arith)
     (omega (arith, length-append terms more))
+
+-- The polynomials with one more, in their fields.
+pub are_pieces_more : (ends : List ℕ) (terms more : List Term) (next : ℕ) → ArePieces ends terms → IsHeld more →
+    next ≡ length (terms ++ more) → ArePieces (ends ++ (next ∷ [])) (terms ++ more)
+are_pieces_more ends terms more next h held is = record {
+  ascending = subst (AreEnds 0 (ends ++ (next ∷ []))) is
+      (ends_more 0 ends (length terms) next h.ascending (omega (arith, length-append terms more)));
+  held = subst (AllByRecursion IsHeld) (sym (pieces_pushed ends terms more next h is))
+      (all_append IsHeld (pieces 0 ends terms) (more ∷ []) h.held (held, tt));
+}
 
 -- Each of them may be held.
 pub held_at : (ends : List ℕ) (terms : List Term) (k : ℕ) → ArePieces ends terms → k < length ends →

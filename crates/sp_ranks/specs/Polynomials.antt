@@ -15,5 +15,5 @@ AreEnds start [] last = start ≡ last
 AreEnds start (end ∷ ends) last = (start ≤ end) × AreEnds end ends last
 
 pub record ArePieces (ends : List ℕ) (terms : List Term) : Type 0 where
-  pub ends : AreEnds 0 ends (length terms)
+  pub ascending : AreEnds 0 ends (length terms)
   pub held : AllByRecursion IsHeld (pieces 0 ends terms)

@@ -59,8 +59,14 @@ impl Polynomials {
         requires { IsHeld polynomial.now }
         ensures { OnOk result (self.new ≡ self.old ++ (polynomial.now ∷ [])) }
     {
+        let before = self.terms.len();
         self.terms.extend_from_slice(polynomial)?;
-        self.ends.push(self.terms.len())?;
-        Ok(())
+        match self.ends.push(self.terms.len()) {
+            Ok(()) => Ok(()),
+            Err(fault) => {
+                self.terms.truncate(before);
+                Err(fault.into())
+            }
+        }
     }
 }
