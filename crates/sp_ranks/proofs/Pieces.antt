@@ -2,19 +2,14 @@
 use Rattle.std.proofs.Common.{◌≡◌, ℕ, zero, suc, ◌+◌, ◌-◌, ◌<◌, ◌≤◌, List, [], ◌∷◌, ◌++◌, take, drop, length, get_or}
 use Rattle.std.proofs.Common.{refl, sym, ◌∙◌, ap, ap₂, subst, arith, length-drop, length-append}
 use Rattle.std.specs.List.{AllByRecursion}
-use Rattle.std.proofs.lemmas.List.{take_all, take-append-le, drop-append-le, drop-drop}
+use Rattle.std.proofs.lemmas.List.{take_all, take-append-le, drop-append-le, drop-drop, get_or_read}
 use Rattle.sp_defs.specs.Laurent.{Laurent, Term}
 use Rattle.sp_laurent.specs.Held.{IsHeld}
 use Rattle.sp_lists.proofs.Elements.{all_append}
 use Rattle.sp_lists.proofs.Places.{all_at}
-use Rattle.sp_ranks.specs.Polynomials.{pieces, AreEnds, ArePieces}
+use Rattle.sp_ranks.specs.Polynomials.{pieces, begin_of, AreEnds, ArePieces}
 
 -- ---- where a piece lies
-
--- Where the piece of a place begins.
-abbrev pub begin_of : ℕ → List ℕ → ℕ → ℕ
-begin_of start ends zero = start
-begin_of start ends (suc k) = get_or ends k 0
 
 begin-cons : (start end : ℕ) (ends : List ℕ) (k : ℕ) → begin_of start (end ∷ ends) (suc k) ≡ begin_of end ends k
 begin-cons start end ends zero = refl
@@ -71,6 +66,45 @@ pieces-at start (end ∷ ends) last terms (suc k) (h, hs) lt =
     two_steps : end - start + (begin_of end ends k - end) ≡ begin_of end ends k - start
     two_steps = omega (arith, (lies_within end ends last k hs (omega arith)).after_start)
 
+-- The places of the pieces are those of their ends.
+pub place_there : (ends : List ℕ) (terms : List Term) (ps : List Laurent) (k : ℕ) → pieces 0 ends terms ≡ ps →
+    k < length ps → k < length ends
+place_there ends terms ps k is lt = omega (arith, ap length is, length-pieces 0 ends terms)
+
+-- The terms of a place, as they are read.
+module _ (ends : List ℕ) (terms : List Term) (ps : List Laurent) (k begin end : ℕ) (h : ArePieces ends terms)
+    (is : pieces 0 ends terms ≡ ps) (lt : k < length ps) where
+  there : k < length ends
+  there = place_there ends terms ps k is lt
+
+  end_is : end ≡ get_or ends k end → end ≡ get_or ends k 0
+  end_is read = get_or_read ends k end there read 0
+
+  -- They lie between these places.
+  pub place_within : begin ≡ begin_of 0 ends k → end ≡ get_or ends k end → LiesWithin 0 (length terms) begin end
+  place_within from to =
+      subst (LiesWithin 0 (length terms) begin) (sym (end_is to))
+      (subst (λ b. LiesWithin 0 (length terms) b (get_or ends k 0)) (sym from)
+      (lies_within 0 ends (length terms) k h.ascending there))
+
+  -- They are the piece of the place.
+  pub place_read : begin ≡ begin_of 0 ends k → end ≡ get_or ends k end → take (end - begin) (drop begin terms) ≡ get_or ps k []
+  place_read from to =
+      ap₂ (λ b e. take (e - b) (drop b terms)) from (end_is to)
+      ∙ sym (ap (λ l. get_or l k []) (sym is)
+      ∙ pieces-at 0 ends (length terms) terms k h.ascending there
+      ∙ ap (λ b. take (get_or ends k 0 - begin_of 0 ends k) (drop b terms)) (whole (begin_of 0 ends k)))
+    where
+      whole : (n : ℕ) → n - 0 ≡ n
+      whole n = omega arith
+
+  -- They may be held.
+  pub place_held : begin ≡ begin_of 0 ends k → end ≡ get_or ends k end → IsHeld (take (end - begin) (drop begin terms))
+  place_held from to =
+      subst IsHeld (sym (place_read from to))
+      (subst (λ l. IsHeld (get_or l k [])) is
+      (all_at IsHeld (pieces 0 ends terms) k [] h.held (omega (arith, length-pieces 0 ends terms, there))))
+
 -- ---- one piece more
 
 pub ends_more : (start : ℕ) (ends : List ℕ) (last next : ℕ) → AreEnds start ends last → last ≤ next →
@@ -111,9 +145,3 @@ are_pieces_more ends terms more next h held is = record {
   held = subst (AllByRecursion IsHeld) (sym (pieces_pushed ends terms more next h is))
       (all_append IsHeld (pieces 0 ends terms) (more ∷ []) h.held (held, tt));
 }
-
--- Each of them may be held.
-pub held_at : (ends : List ℕ) (terms : List Term) (k : ℕ) → ArePieces ends terms → k < length ends →
-    IsHeld (get_or (pieces 0 ends terms) k [])
-held_at ends terms k h lt =
-    all_at IsHeld (pieces 0 ends terms) k [] h.held (omega (arith, length-pieces 0 ends terms))

@@ -1,6 +1,7 @@
 // Polynomials with all their terms in one list.
 ghost use Rattle.std.specs.Prelude.{◌≡◌, ◌<◌, ◌≤◌, ◌++◌, [], ◌∷◌, length, get_or, OnOk, IfOk};
 ghost use Rattle.sp_laurent.specs.Held.{IsHeld};
+ghost use Rattle.sp_ranks.specs.Polynomials.{begin_of};
 
 use sp_laurent::Term;
 use std::alloc::{AllocError, Global};
@@ -50,7 +51,7 @@ impl Polynomials {
         ensures value { result.now ≡ get_or self.now place [] }
         ensures held { IsHeld result.now }
     {
-        let start = if place == 0 { 0 } else { self.ends[place - 1] };
+        let start = begin(&self.ends, place);
         &self.terms[start..self.ends[place]]
     }
 
@@ -69,4 +70,12 @@ impl Polynomials {
             }
         }
     }
+}
+
+// Where the terms of a place begin.
+fn begin(ends: &[usize], place: usize) -> usize
+    requires { place < length ends.now }
+    ensures { result ≡ begin_of 0 ends.now place }
+{
+    if place == 0 { 0 } else { ends[place - 1] }
 }
