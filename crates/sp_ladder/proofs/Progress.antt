@@ -61,7 +61,7 @@ nth_ladder e mu t lt = get_or-map (step_at e mu) (ladders e mu) t 0 no_step lt
 -- What the code may ask for and is told at a step.
 pub record CanStep (limit e : ℕ) (mu : List ℕ) (t : ℕ) (v : FockVector) (step : Step) : Type 0 where
   pub below : step.residue < e
-  pub room : v.degree + step.count ≤ 32
+  pub room : v.degree + step.count ≤ degree mu
   pub past : limit < induction_weight e step.residue step.count v.degree (vector_of v.entries) →
       limit < ladder_weight e mu
   pub next : (w : FockVector) →
@@ -82,7 +82,7 @@ module _ (limit e : ℕ) (mu : List ℕ) (list : List Step) (t : ℕ) (v : FockV
   pub can_step : (d : Step) → t < length list → CanStep limit e mu t v (get_or list t d)
   can_step d lt = record {
     below = subst (λ n. n < e) (sym (ap (λ s. s.residue) here)) small_residue;
-    room = omega (arith, room, p.small);
+    room = room;
     past = past_next limit e mu t v p.after step.residue step.count early residue count p.label;
     next = λ w. after_next limit e mu t v p.after step.residue step.count early residue count w
         (omega (arith, room, p.small));
@@ -114,6 +114,11 @@ module _ (limit e : ℕ) (mu : List ℕ) (list : List Step) (t : ℕ) (v : FockV
 
       room : v.degree + step.count ≤ degree mu
       room = room_next limit e mu t v p.after step.residue step.count early residue count p.label
+
+  -- A partition has room for the next step's nodes.
+  pub small_room : (d : Step) → t < length list → v.degree + (get_or list t d).count ≤ 32
+  small_room d lt = let step : CanStep limit e mu t v (get_or list t d) = can_step d lt in
+      omega (arith, step.room, p.small)
 
   -- One step on.
   pub goes_on : (w : FockVector) → After limit e mu (t + 1) w → Progress limit e mu list (t + 1) w

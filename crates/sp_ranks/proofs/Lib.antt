@@ -1,3 +1,4 @@
+pub mod Induced
 pub mod Pieces
 pub mod Overs
 pub mod Walks

@@ -40,6 +40,7 @@ pub fn induce(
     ensures powers { IfOk result
         (λ w. (d : ℕ) → AllWithin d v.now.entries → AllWithin (m * (v.now.degree + 1) + d) w.entries) }
 {
+    let _most = moves.degree();
     let mut found = all_moves(alloc, moves, e, i, m, v)?;
     sort_by_rank(&mut found);
     sums(alloc, v.degree() + m, v, &found, limit)

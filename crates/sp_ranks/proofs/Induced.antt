@@ -1,0 +1,104 @@
+-- Moves that are sorted by rank are sorted by partition; so what their runs sum up to is the divided power.
+use Rattle.std.proofs.Common.{◌≡◌, ℕ, ◌+◌, ◌*◌, ◌<◌, ◌≤◌, false, List, [], length, get_or, refl, sym, ◌∙◌, ap, subst}
+use Rattle.std.proofs.Common.{arith, nat_cmp, is_lt, pos, ◌⊎◌, inl, inr}
+use Rattle.std.specs.List.{AllByRecursion}
+use Rattle.std.specs.List.Sorted.{IsPermutation, IsSortedByKey}
+use Rattle.std.proofs.lemmas.List.{get_or-map, length-map}
+use Rattle.std.proofs.lemmas.List.Elements.{All-from_recursion, recursion_from_All}
+use Rattle.std.proofs.lemmas.List.Sorted.{All-permutation, IsNonDecreasingBy-from_sort, IsPermutation-map}
+use Rattle.sp_defs.specs.Partition.{degree, order, compare, partitions, IsPartitionOf}
+use Rattle.sp_defs.specs.Power.{Entries, FockVector, IsVector, fock_vector, vector_of, divided_power, greatest}
+use Rattle.sp_defs.specs.Power.{induction_weight}
+use Rattle.sp_lists.proofs.Elements.{all_both, map_all, le_or_lt}
+use Rattle.sp_lists.proofs.Places.{all_at, all_weaken}
+use Rattle.sp_partition.specs.OrderLaws.{order_one_degree}
+use Rattle.sp_shapes.proofs.Listing.{all_partitions, partitions_ascend}
+use Rattle.sp_shapes.proofs.Order.{ascends_at, equal_self, later_than}
+use Rattle.sp_power.specs.Arrivals.{half_power_limit, AllWithin, IsBrought, AreSorted}
+use Rattle.sp_power.proofs.Induced.{all_brought, sizes_by, sorted_by, vector_after, within_after}
+use Rattle.sp_power_law.specs.Runs.{arrivals, runs, sums_of, sizes_of}
+use Rattle.sp_ranks.specs.Arrivals.{arrival_at, arrivals_at, IsBroughtBy}
+use Rattle.sp_ranks.specs.Ranks.{partition_at}
+use Rattle.sp_ranks.specs.declared.walk.Arrival.{Arrival}
+
+-- ---- the order of ranks is that of partitions
+
+-- Of two ranks of one degree the later is not of an earlier partition.
+pub ranks_in_order : (n a b : ℕ) → a ≤ b → b < length (partitions n) →
+    is_lt (order (partition_at n b) (partition_at n a)) ≡ false
+ranks_in_order n a b le lt =
+    ap is_lt (order_one_degree (partition_at n b) (partition_at n a) (total b lt ∙ sym (total a (omega arith))))
+    ∙ by_place (le_or_lt b a)
+  where
+    total : (k : ℕ) → k < length (partitions n) → degree (partition_at n k) ≡ n
+    total k early = let h : IsPartitionOf n (partition_at n k) = all_at (IsPartitionOf n) (partitions n) k []
+        (all_partitions n) early in h.total
+
+    by_place : (b ≤ a) ⊎ (a < b) → is_lt (compare (partition_at n b) (partition_at n a)) ≡ false
+    by_place (inl h) = let same : a ≡ b = omega arith in
+        subst (λ k. is_lt (compare (partition_at n b) (partition_at n k)) ≡ false) (sym same)
+        (ap is_lt (equal_self (partition_at n b)))
+    by_place (inr h) =
+        ap is_lt (later_than (partition_at n a) (partition_at n b)
+        (ascends_at (partitions n) (partitions_ascend n) a b h lt))
+
+-- What is sorted by ranks is sorted by partitions.
+pub sorted_at : (n : ℕ) (ts : List Arrival) → AllByRecursion (λ t. t.rank < length (partitions n)) ts →
+    IsSortedByKey (λ t. t.rank) nat_cmp ts → IsSortedByKey (λ t. t.0) order (arrivals_at n ts)
+sorted_at n ts there up k d lo hi =
+    let next : k + 1 < length ts = omega (arith, hi, length-map ts (arrival_at n)) in
+    subst (λ x. is_lt (order x.0 (get_or (arrivals_at n ts) k d).0) ≡ false)
+    (sym (get_or-map (arrival_at n) ts (k + 1) none d next))
+    (subst (λ x. is_lt (order (partition_at n (get_or ts (k + 1) none).rank) x.0) ≡ false)
+    (sym (get_or-map (arrival_at n) ts k none d (omega arith)))
+    (ranks_in_order n (get_or ts k none).rank (get_or ts (k + 1) none).rank
+    (IsNonDecreasingBy-from_sort (λ t. t.rank) ts up k (k + 1) none (omega arith) next)
+    (all_at (λ t. t.rank < length (partitions n)) ts (k + 1) none there next)))
+  where
+    none : Arrival
+    none = record { rank = 0; source = 0; exponent = pos 0 }
+
+-- ---- the moves that are found, sorted
+
+module _ (e i m n : ℕ) (es : Entries) (found sorted : List Arrival) (he : 2 ≤ e) (room : n + m ≤ 32)
+    (v : IsVector n es) (is : arrivals_at (n + m) found ≡ arrivals e i m 0 es)
+    (there : AllByRecursion (λ t. t.rank < length (partitions (n + m))) found)
+    (perm : IsPermutation found sorted) (up : IsSortedByKey (λ t. t.rank) nat_cmp sorted) where
+  there_still : AllByRecursion (λ t. t.rank < length (partitions (n + m))) sorted
+  there_still = recursion_from_All (λ t. t.rank < length (partitions (n + m))) sorted
+      (All-permutation (λ t. t.rank < length (partitions (n + m))) found sorted perm
+      (All-from_recursion (λ t. t.rank < length (partitions (n + m))) found there))
+
+  -- They are all moves in order.
+  pub are_sorted : AreSorted e i m n es (arrivals_at (n + m) sorted)
+  are_sorted =
+      sorted_by e i m n es es (arrivals_at (n + m) found) (arrivals_at (n + m) sorted) he room v refl is
+      (IsPermutation-map (arrival_at (n + m)) found sorted perm) (sorted_at (n + m) sorted there_still up)
+
+  -- Each comes from an entry, with powers that leave room for its exponent.
+  pub all_brought_by : AllWithin half_power_limit es → AllByRecursion (IsBroughtBy (n + m) es) sorted
+  all_brought_by within =
+      all_weaken (λ t. IsBrought es (arrival_at (n + m) t) × (t.rank < length (partitions (n + m))))
+      (IsBroughtBy (n + m) es) sorted
+      (λ t h. record { source = h.0.there; rank = h.1; near = h.0.near; powers = h.0.powers })
+      (all_both (λ t. IsBrought es (arrival_at (n + m) t)) (λ t. t.rank < length (partitions (n + m))) sorted
+      (map_all (IsBrought es) (arrival_at (n + m)) sorted
+      (all_brought e i m n es (arrivals_at (n + m) sorted) are_sorted within)) there_still)
+
+  -- The greatest size of a run is the weight of the induction.
+  pub weight_by : greatest (sizes_of es (runs (arrivals_at (n + m) sorted))) ≡ induction_weight e i m n (vector_of es)
+  weight_by = sizes_by e i m n es es (arrivals_at (n + m) sorted) (arrivals_at (n + m) sorted) refl refl are_sorted
+
+  module _ (w : FockVector) (same_degree : w.degree ≡ n + m)
+      (sums : w.entries ≡ sums_of es (runs (arrivals_at (n + m) sorted))) where
+    -- The sums make the divided power.
+    pub vector_by : w ≡ fock_vector (n + m) (divided_power e i m (vector_of es))
+    vector_by =
+        ap (λ k. let u : FockVector = record { degree = k; entries = w.entries } in u) same_degree
+        ∙ vector_after e i m n es (arrivals_at (n + m) sorted) are_sorted n w.entries refl sums
+
+    -- The powers of the divided power are not far from those of the vector.
+    pub within_by : (d : ℕ) → AllWithin d es → AllWithin (m * (n + 1) + d) w.entries
+    within_by d within =
+        within_after e i m n es (arrivals_at (n + m) sorted) are_sorted n w.entries w d
+        (ap (λ k. let u : FockVector = record { degree = k; entries = w.entries } in u) same_degree) sums within
