@@ -115,10 +115,11 @@ module _ (limit e : ℕ) (mu : List ℕ) (list : List Step) (t : ℕ) (v : FockV
       room : v.degree + step.count ≤ degree mu
       room = room_next limit e mu t v p.after step.residue step.count early residue count p.label
 
-  -- A partition has room for the next step's nodes.
-  pub small_room : (d : Step) → t < length list → v.degree + (get_or list t d).count ≤ 32
-  small_room d lt = let step : CanStep limit e mu t v (get_or list t d) = can_step d lt in
-      omega (arith, step.room, p.small)
+  -- What has room for mu has room for the next step's nodes.
+  pub room_within : (most : ℕ) (d : Step) → t < length list → degree mu ≤ most →
+      v.degree + (get_or list t d).count ≤ most
+  room_within most d lt le = let step : CanStep limit e mu t v (get_or list t d) = can_step d lt in
+      omega (arith, step.room, le)
 
   -- One step on.
   pub goes_on : (w : FockVector) → After limit e mu (t + 1) w → Progress limit e mu list (t + 1) w

@@ -1,6 +1,6 @@
 -- Each step of the list is one of the definition, by the facts of `CanStep`.
 use Rattle.std.proofs.Common.{◌∙◌, arith}
-use Rattle.sp_ladder.proofs.Progress.{begins, powers_small, can_step, small_room, goes_on, ends}
+use Rattle.sp_ladder.proofs.Progress.{begins, powers_small, can_step, room_within, goes_on, ends}
 use Rattle.sp_ladder.proofs.Progress.{ends_within, ends_obeying}
 use Rattle.sp_ladder.proofs.vector.ladder_vector.Goals as goal
 
@@ -13,7 +13,8 @@ pub induce-requires-clause-below : goal.induce-requires-clause-below
 induce-requires-clause-below c = (can_step _ _ _ _ _ _ c.loop-step.invariant _ c.loop-step-test.true).below
 
 pub induce-requires-clause-room : goal.induce-requires-clause-room
-induce-requires-clause-room c = small_room _ _ _ _ _ _ c.loop-step.invariant _ c.loop-step-test.true
+induce-requires-clause-room c =
+    room_within _ _ _ _ _ _ c.loop-step.invariant 32 _ c.loop-step-test.true c.loop-step.invariant.small
 
 pub induce-requires-clause-powers : goal.induce-requires-clause-powers
 induce-requires-clause-powers c = powers_small _ _ _ _ _ _ c.loop-step.invariant
