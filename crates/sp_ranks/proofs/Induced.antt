@@ -12,6 +12,7 @@ use Rattle.sp_defs.specs.Power.{induction_weight}
 use Rattle.sp_lists.proofs.Elements.{all_both, map_all, le_or_lt}
 use Rattle.sp_lists.proofs.Places.{all_at, all_weaken}
 use Rattle.sp_partition.specs.OrderLaws.{order_one_degree}
+use Rattle.sp_partition.specs.declared.TheConstants.{DEGREE_LIMIT}
 use Rattle.sp_shapes.proofs.Listing.{all_partitions, partitions_ascend}
 use Rattle.sp_shapes.proofs.Order.{ascends_at, equal_self, later_than}
 use Rattle.sp_power.specs.Arrivals.{half_power_limit, AllWithin, IsBrought, AreSorted}
@@ -19,6 +20,7 @@ use Rattle.sp_power.proofs.Induced.{all_brought, sizes_by, sorted_by, vector_aft
 use Rattle.sp_power_law.specs.Runs.{arrivals, runs, sums_of, sizes_of}
 use Rattle.sp_ranks.specs.Arrivals.{arrival_at, arrivals_at, IsBroughtBy}
 use Rattle.sp_ranks.specs.Ranks.{partition_at}
+use Rattle.sp_ranks.specs.Sorted.{AreSortedByRank}
 use Rattle.sp_ranks.specs.declared.walk.Arrival.{Arrival}
 
 -- ---- the order of ranks is that of partitions
@@ -60,45 +62,74 @@ sorted_at n ts there up k d lo hi =
 
 -- ---- the moves that are found, sorted
 
-module _ (e i m n : ℕ) (es : Entries) (found sorted : List Arrival) (he : 2 ≤ e) (room : n + m ≤ 32)
-    (v : IsVector n es) (is : arrivals_at (n + m) found ≡ arrivals e i m 0 es)
-    (there : AllByRecursion (λ t. t.rank < length (partitions (n + m))) found)
-    (perm : IsPermutation found sorted) (up : IsSortedByKey (λ t. t.rank) nat_cmp sorted) where
-  there_still : AllByRecursion (λ t. t.rank < length (partitions (n + m))) sorted
-  there_still = recursion_from_All (λ t. t.rank < length (partitions (n + m))) sorted
-      (All-permutation (λ t. t.rank < length (partitions (n + m))) found sorted perm
-      (All-from_recursion (λ t. t.rank < length (partitions (n + m))) found there))
+-- What is found and sorted by rank are all moves in order.
+pub are_sorted : (e i m : ℕ) (v : FockVector) (found ts : List Arrival) → 2 ≤ e → v.degree + m ≤ DEGREE_LIMIT →
+    IsVector v.degree v.entries → arrivals_at (v.degree + m) found ≡ arrivals e i m 0 v.entries →
+    AllByRecursion (λ t. t.rank < length (partitions (v.degree + m))) found →
+    IsPermutation found ts → IsSortedByKey (λ t. t.rank) nat_cmp ts → AreSortedByRank e i m v ts
+are_sorted e i m v found ts he room held is there perm up = record {
+  room = room;
+  there = still;
+  ranks = up;
+  moves =
+      sorted_by e i m v.degree v.entries v.entries (arrivals_at (v.degree + m) found) (arrivals_at (v.degree + m) ts)
+      he (omega arith) held refl is (IsPermutation-map (arrival_at (v.degree + m)) found ts perm)
+      (sorted_at (v.degree + m) ts still up);
+}
+  where
+    still : AllByRecursion (λ t. t.rank < length (partitions (v.degree + m))) ts
+    still = recursion_from_All (λ t. t.rank < length (partitions (v.degree + m))) ts
+        (All-permutation (λ t. t.rank < length (partitions (v.degree + m))) found ts perm
+        (All-from_recursion (λ t. t.rank < length (partitions (v.degree + m))) found there))
 
-  -- They are all moves in order.
-  pub are_sorted : AreSorted e i m n es (arrivals_at (n + m) sorted)
-  are_sorted =
-      sorted_by e i m n es es (arrivals_at (n + m) found) (arrivals_at (n + m) sorted) he room v refl is
-      (IsPermutation-map (arrival_at (n + m)) found sorted perm) (sorted_at (n + m) sorted there_still up)
+-- ---- as the code has them: the degree and the moves under names of their own
 
-  -- Each comes from an entry, with powers that leave room for its exponent.
-  pub all_brought_by : AllWithin half_power_limit es → AllByRecursion (IsBroughtBy (n + m) es) sorted
+module _ (e i m : ℕ) (v : FockVector) (ts : List Arrival) (s : AreSortedByRank e i m v ts) (n : ℕ)
+    (same_degree : n ≡ v.degree) (read : List Arrival) (same_moves : read ≡ ts) where
+  as_read : (P : ℕ → List Arrival → Type 0) → P (v.degree + m) ts → P (n + m) read
+  as_read P h = subst (λ k. P (k + m) read) (sym same_degree) (subst (P (v.degree + m)) (sym same_moves) h)
+
+  read_runs : runs (arrivals_at (n + m) read) ≡ runs (arrivals_at (v.degree + m) ts)
+  read_runs = as_read (λ k l. runs (arrivals_at k l) ≡ runs (arrivals_at (v.degree + m) ts)) refl
+
+  -- They are sorted by rank.
+  pub read_sorted : IsSortedByKey (λ t. t.rank) nat_cmp read
+  read_sorted = as_read (λ _ l. IsSortedByKey (λ t. t.rank) nat_cmp l) s.ranks
+
+  -- Each comes from an entry, whose powers leave room for its exponent.
+  pub all_brought_by : AllWithin half_power_limit v.entries → AllByRecursion (IsBroughtBy (n + m) v.entries) read
   all_brought_by within =
-      all_weaken (λ t. IsBrought es (arrival_at (n + m) t) × (t.rank < length (partitions (n + m))))
-      (IsBroughtBy (n + m) es) sorted
+      as_read (λ k l. AllByRecursion (IsBroughtBy k v.entries) l)
+      (all_weaken (λ t. IsBrought v.entries (arrival_at (v.degree + m) t) × (t.rank < length (partitions (v.degree + m))))
+      (IsBroughtBy (v.degree + m) v.entries) ts
       (λ t h. record { source = h.0.there; rank = h.1; near = h.0.near; powers = h.0.powers })
-      (all_both (λ t. IsBrought es (arrival_at (n + m) t)) (λ t. t.rank < length (partitions (n + m))) sorted
-      (map_all (IsBrought es) (arrival_at (n + m)) sorted
-      (all_brought e i m n es (arrivals_at (n + m) sorted) are_sorted within)) there_still)
+      (all_both (λ t. IsBrought v.entries (arrival_at (v.degree + m) t))
+      (λ t. t.rank < length (partitions (v.degree + m))) ts
+      (map_all (IsBrought v.entries) (arrival_at (v.degree + m)) ts
+      (all_brought e i m v.degree v.entries (arrivals_at (v.degree + m) ts) s.moves within)) s.there))
 
   -- The greatest size of a run is the weight of the induction.
-  pub weight_by : greatest (sizes_of es (runs (arrivals_at (n + m) sorted))) ≡ induction_weight e i m n (vector_of es)
-  weight_by = sizes_by e i m n es es (arrivals_at (n + m) sorted) (arrivals_at (n + m) sorted) refl refl are_sorted
+  pub weight_by : greatest (sizes_of v.entries (runs (arrivals_at (n + m) read)))
+      ≡ induction_weight e i m v.degree (vector_of v.entries)
+  weight_by =
+      ap (λ rs. greatest (sizes_of v.entries rs)) read_runs
+      ∙ sizes_by e i m v.degree v.entries v.entries (arrivals_at (v.degree + m) ts) (arrivals_at (v.degree + m) ts)
+      refl refl s.moves
 
-  module _ (w : FockVector) (same_degree : w.degree ≡ n + m)
-      (sums : w.entries ≡ sums_of es (runs (arrivals_at (n + m) sorted))) where
+  module _ (w : FockVector) (degree_is : w.degree ≡ n + m)
+      (sums : w.entries ≡ sums_of v.entries (runs (arrivals_at (n + m) read))) where
+    entries_are : w.entries ≡ sums_of v.entries (runs (arrivals_at (v.degree + m) ts))
+    entries_are = sums ∙ ap (sums_of v.entries) read_runs
+
     -- The sums make the divided power.
-    pub vector_by : w ≡ fock_vector (n + m) (divided_power e i m (vector_of es))
+    pub vector_by : w ≡ fock_vector (v.degree + m) (divided_power e i m (vector_of v.entries))
     vector_by =
-        ap (λ k. let u : FockVector = record { degree = k; entries = w.entries } in u) same_degree
-        ∙ vector_after e i m n es (arrivals_at (n + m) sorted) are_sorted n w.entries refl sums
+        ap (λ k. let u : FockVector = record { degree = k; entries = w.entries } in u) degree_is
+        ∙ vector_after e i m v.degree v.entries (arrivals_at (v.degree + m) ts) s.moves n w.entries same_degree
+        entries_are
 
     -- The powers of the divided power are not far from those of the vector.
-    pub within_by : (d : ℕ) → AllWithin d es → AllWithin (m * (n + 1) + d) w.entries
-    within_by d within =
-        within_after e i m n es (arrivals_at (n + m) sorted) are_sorted n w.entries w d
-        (ap (λ k. let u : FockVector = record { degree = k; entries = w.entries } in u) same_degree) sums within
+    pub within_by : (d : ℕ) → AllWithin d v.entries → AllWithin (m * (v.degree + 1) + d) w.entries
+    within_by d =
+        within_after e i m v.degree v.entries (arrivals_at (v.degree + m) ts) s.moves n w.entries w d
+        (ap (λ k. let u : FockVector = record { degree = k; entries = w.entries } in u) degree_is) entries_are

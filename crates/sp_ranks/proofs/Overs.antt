@@ -71,9 +71,12 @@ climb_few : (ranks : List ℕ) (a n : ℕ) → Climbs ranks → AllByRecursion (
     AllByRecursion (λ rank. rank < n) ranks → a ≤ n → a + length ranks ≤ n
 climb_few [] a n up least within le = omega arith
 climb_few (rank ∷ ranks) a n (up, ups) (least, leasts) (within, withins) le =
-    omega (arith, climb_few ranks (rank + 1) n ups
-    (all_weaken (λ other. rank < other) (λ other. rank + 1 ≤ other) ranks (λ other h. omega arith) up) withins
-    (omega arith))
+    omega (
+      arith,
+      climb_few ranks (rank + 1) n ups
+          (all_weaken (λ other. rank < other) (λ other. rank + 1 ≤ other) ranks (λ other h. omega arith) up) withins
+          (omega arith),
+    )
 
 pub few_ranks : (n : ℕ) (ranks : List ℕ) (ps : List Laurent) → IsOverRanks n ranks ps →
     length ranks ≤ length (partitions n)

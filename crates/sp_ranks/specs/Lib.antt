@@ -3,3 +3,4 @@ pub mod Moves
 pub mod Polynomials
 pub mod Vectors
 pub mod Arrivals
+pub mod Sorted

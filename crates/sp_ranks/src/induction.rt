@@ -4,6 +4,7 @@ ghost use Rattle.std.specs.Ordering.{nat_cmp};
 ghost use Rattle.std.specs.List.Sorted.{IsPermutation, IsSortedByKey};
 ghost use Rattle.sp_defs.specs.Power.{fock_vector, vector_of, divided_power, induction_weight};
 ghost use Rattle.sp_power.specs.Arrivals.{half_power_limit, AllWithin};
+ghost use Rattle.sp_ranks.specs.Sorted.{AreSortedByRank};
 
 use crate::sums::sums;
 use crate::walk::{Arrival, all_moves};
@@ -40,10 +41,30 @@ pub fn induce(
     ensures powers { IfOk result
         (λ w. (d : ℕ) → AllWithin d v.now.entries → AllWithin (m * (v.now.degree + 1) + d) w.entries) }
 {
+    let found = sorted_moves(alloc, moves, e, i, m, v)?;
+    sums(alloc, v.degree() + m, v, &found, limit)
+}
+
+// All moves of m nodes of residue `i` from the partitions of the vector, in the order of the ranks they lead to.
+fn sorted_moves(
+    alloc: Global,
+    moves: &Moves,
+    e: u8,
+    i: u8,
+    m: u8,
+    v: &RankVector,
+) -> Result<Vec<Arrival>, AllocError>
+    requires e_least { 2 ≤ e }
+    requires e_most { e ≤ 64 }
+    requires below { i < e }
+    requires room { v.now.degree + m ≤ moves.now }
+    ensures { IfOk result (λ found. AreSortedByRank e i m v.now found.items) }
+{
     let _most = moves.degree();
+    let _held = v.degree();
     let mut found = all_moves(alloc, moves, e, i, m, v)?;
     sort_by_rank(&mut found);
-    sums(alloc, v.degree() + m, v, &found, limit)
+    Ok(found)
 }
 
 // Moves to one rank stand together, and the ranks ascend.

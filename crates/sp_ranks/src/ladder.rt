@@ -31,7 +31,7 @@ pub fn ladder_vector(
     ensures fits { OnOk result (ladder_weight e mu.now ≤ limit) }
     ensures too_large { IsErrOf result PowerFault.TooLarge → limit < ladder_weight e mu.now }
 {
-    let _degree = mu.degree();
+    let _held = mu.degree();
     let mut vector = RankVector::one(alloc)?;
     let steps = ladders(e, mu);
     for step in steps.as_slice() {

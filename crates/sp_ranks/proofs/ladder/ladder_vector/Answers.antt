@@ -5,7 +5,7 @@ use Rattle.sp_ranks.proofs.ladder.ladder_vector.Goals as goal
 
 pub loop-step-init : goal.loop-step-init
 loop-step-init c =
-    begins _ _ _ _ _ c.requires.least c.requires.e_least c.requires.regular c.degree.ensures.held
+    begins _ _ _ _ _ c.requires.least c.requires.e_least c.requires.regular c.degree-held.ensures.held
     (c.as_slice-step-items.ensures.value ∙ c.ladders-steps.ensures) c.in_ok-vector.ensures
 
 pub induce-requires-clause-below : goal.induce-requires-clause-below
