@@ -1,7 +1,8 @@
 -- All moves from a vector over ranks, by the ranks that they lead to.
-use Rattle.std.specs.Prelude.{ℕ, ◌+◌, ◌<◌, ◌≤◌, List, length, nat_cmp}
+use Rattle.std.specs.Prelude.{ℕ, ◌+◌, ◌<◌, ◌≤◌, List, length}
 use Rattle.std.specs.List.{AllByRecursion}
 use Rattle.std.specs.List.Sorted.{IsSortedByKey}
+use Rattle.std.specs.Ordering.{nat_cmp}
 use Rattle.sp_defs.specs.Partition.{partitions}
 use Rattle.sp_defs.specs.Power.{FockVector}
 use Rattle.sp_partition.specs.declared.TheConstants.{DEGREE_LIMIT}
