@@ -2,11 +2,9 @@
 use Rattle.std.proofs.Common.{◌≡◌, ℕ, ◌+◌, ◌<◌, ◌≤◌, List, [], ◌++◌, map, length, drop, get_or, sym, ◌∙◌, ap, ap₂}
 use Rattle.std.proofs.Common.{subst, pos}
 use Rattle.std.proofs.lemmas.List.{get_or_default}
-use Rattle.sp_lists.proofs.Places.{all_at}
-use Rattle.sp_defs.specs.Partition.{partitions, IsPartitionOf}
+use Rattle.sp_defs.specs.Partition.{partitions}
 use Rattle.sp_defs.specs.Power.{Entries}
 use Rattle.sp_defs.specs.Signature.{signature}
-use Rattle.sp_shapes.proofs.Listing.{all_partitions}
 use Rattle.sp_nodes.specs.declared.corners.Mark.{Mark}
 use Rattle.sp_nodes.specs.Marks.{mark_of}
 use Rattle.sp_power_law.specs.Walk.{CanGrow}
@@ -18,10 +16,7 @@ use Rattle.sp_ranks.specs.Ranks.{partition_at}
 use Rattle.sp_ranks.specs.Arrivals.{arrivals_at, found_at}
 use Rattle.sp_ranks.specs.declared.walk.Arrival.{Arrival}
 use Rattle.sp_ranks.specs.declared.walk.Way.{Way}
-
--- At each rank of a degree there is a partition of it.
-pub partition_of : (n rank : ℕ) → rank < length (partitions n) → IsPartitionOf n (partition_at n rank)
-partition_of n rank there = all_at (IsPartitionOf n) (partitions n) rank [] (all_partitions n) there
+use Rattle.sp_ranks.proofs.Overs.{partition_there}
 
 -- The marks of the partition of a rank are its signature.
 pub marks_at : (e i n rank place : ℕ) (all : List (List ℕ)) (marks found : List Mark) (p : List ℕ) →
@@ -37,7 +32,7 @@ pub grows_at : (e i n rank : ℕ) (marks : List Mark) → 2 ≤ e → rank < len
     map mark_of marks ≡ signature e i (partition_at n rank) → CanGrow (map mark_of marks) (partition_at n rank)
 grows_at e i n rank marks he there is =
     subst (λ l. CanGrow l (partition_at n rank)) (sym is)
-    (can_grow e i (partition_at n rank) he (partition_of n rank there).partition)
+    (can_grow e i (partition_at n rank) he (partition_there n rank there).partition)
 
 -- The moves from one place more.
 pub found_next : (e i m n k : ℕ) (es : Entries) (marks : List Mark) (way : Way) (old new : List Arrival) →
