@@ -4,3 +4,5 @@ pub mod Overs
 pub mod Walks
 pub mod Sources
 pub mod Gains
+pub mod RankRuns
+pub mod RankSums

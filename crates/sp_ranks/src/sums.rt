@@ -1,9 +1,10 @@
 // Moves in order of the ranks that they lead to, taken apart into runs of one rank each, and summed.
-ghost use Rattle.std.specs.Prelude.{◌≡◌, ◌+◌, ◌^◌, ◌<◌, ◌≤◌, ◌↔◌, IsTrue, IfOk, OnOk, IsErrOf, sum_by, length};
+ghost use Rattle.std.specs.Prelude.{◌≡◌, ℕ, ◌+◌, ◌^◌, ◌<◌, ◌≤◌, ◌↔◌, [], ◌∷◌, ◌++◌, IsTrue, IfOk, OnOk, IsErrOf};
+ghost use Rattle.std.specs.Prelude.{cond, nat_eq, nat_lt, sum_by, length};
 ghost use Rattle.std.specs.List.{AllByRecursion, prefix_len};
-ghost use Rattle.std.specs.Ordering.{nat_cmp};
 ghost use Rattle.std.specs.List.Sorted.{IsSortedByKey};
-ghost use Rattle.sp_defs.specs.Laurent.{size, sum_over};
+ghost use Rattle.std.specs.Ordering.{nat_cmp};
+ghost use Rattle.sp_defs.specs.Laurent.{sum_over};
 ghost use Rattle.sp_defs.specs.Power.{greatest};
 ghost use Rattle.sp_laurent.specs.Held.{IsHeld};
 ghost use Rattle.sp_power_law.specs.Runs.{runs, sizes_of, sums_of};
@@ -60,11 +61,11 @@ fn push_nonzero(
     rank: u16,
     sum: &[Term],
 ) -> Result<(), AllocError>
-    requires count { length ranks.old.items ≡ length polynomials.old }
-    requires held { IsHeld sum.now }
-    ensures entries { (n : ℕ) → OnOk result (entries_over n ranks.new.items polynomials.new ≡
-        entries_over n ranks.old.items polynomials.old
-        ++ filter (λ t. nat_lt 0 (length t.1)) ((partition_at n rank, sum.now) ∷ [])) }
+    requires { IsHeld sum.now }
+    ensures ranks { OnOk result (ranks.new.items ≡
+        cond (nat_lt 0 (length sum.now)) (ranks.old.items ++ (rank ∷ [])) ranks.old.items) }
+    ensures polynomials { OnOk result (polynomials.new ≡
+        cond (nat_lt 0 (length sum.now)) (polynomials.old ++ (sum.now ∷ [])) polynomials.old) }
 {
     if !sum.is_empty() {
         ranks.push(rank)?;
