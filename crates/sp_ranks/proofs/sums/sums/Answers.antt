@@ -2,6 +2,7 @@
 use Rattle.std.proofs.Common.{◌≤◌, ◌∙◌, length, get_or, sym, ap, subst, sum_by, nat_eq}
 use Rattle.std.proofs.lemmas.List.Sums.{prefix_len-le-length}
 use Rattle.sp_defs.specs.Power.{FockVector}
+use Rattle.sp_laurent.specs.Held.{IsHeld}
 use Rattle.sp_power.proofs.Summing.{is_past}
 use Rattle.sp_ranks.specs.declared.walk.Arrival.{Arrival}
 use Rattle.sp_ranks.specs.Arrivals.{size_at}
@@ -64,8 +65,9 @@ loop-rest-preserved c =
     (get_or c.loop-rest.rest.now 0 nothing).rank c.split_at.result.0.now c.split_at.result.1.now
     (rank_split c.loop-rest.rest.now c.split_at.result.0.now c.split_at.result.1.now c.run_length.result
     c.in-len1-up.len_at_least c.run_length.ensures c.split_at.ensures.front c.split_at.ensures.back)
-    c.add_run.new.sum.items c.push_nonzero.new.ranks.items c.push_nonzero.new.polynomials
-    (c.run_fits.ensures.0 c.if-not-run_fits.false) c.in_ok-add_run.ensures.sum c.in_ok-add_run.ensures.held
+    c.deref.result.now c.push_nonzero.new.ranks.items c.push_nonzero.new.polynomials
+    (c.run_fits.ensures.0 c.if-not-run_fits.false) (c.deref.ensures.value ∙ c.in_ok-add_run.ensures.sum)
+    (subst IsHeld (sym c.deref.ensures.value) c.in_ok-add_run.ensures.held)
     c.in_ok-push_nonzero.ensures.ranks c.in_ok-push_nonzero.ensures.polynomials
 
 pub over-requires : goal.over-requires
