@@ -1,14 +1,17 @@
 -- Vectors over ranks, by their entries.
 use Rattle.std.proofs.Common.{◌≡◌, ◌≢◌, ℕ, zero, suc, ◌+◌, ◌<◌, ◌≤◌, List, [], ◌∷◌, ◌++◌, map, length, get_or}
-use Rattle.std.proofs.Common.{refl, sym, ap, subst, arith, length-append}
+use Rattle.std.proofs.Common.{refl, sym, ◌∙◌, ap, ap₂, subst, arith, length-append, pos}
 use Rattle.std.specs.List.{AllByRecursion}
-use Rattle.sp_defs.specs.Laurent.{Laurent, IsLaurent}
-use Rattle.sp_defs.specs.Partition.{partitions, Ascending, IsEarlier, IsPartitionOf}
-use Rattle.sp_defs.specs.Power.{Entries, IsVector}
+use Rattle.std.proofs.lemmas.List.{get_or_read}
+use Rattle.sp_defs.specs.Laurent.{Laurent, IsLaurent, one}
+use Rattle.sp_defs.specs.Partition.{partitions, partitions_within, Ascending, IsEarlier, IsPartitionOf}
+use Rattle.sp_defs.specs.Power.{Entries, FockVector, IsVector, entries, unit}
 use Rattle.sp_laurent.specs.Held.{IsHeld}
+use Rattle.sp_laurent.proofs.Held.{held_monomial}
+use Rattle.sp_fock_law.proofs.Single.{entries-unit}
 use Rattle.sp_lists.proofs.Elements.{all_append}
 use Rattle.sp_lists.proofs.Places.{all_at, all_weaken}
-use Rattle.sp_shapes.proofs.Listing.{all_partitions, partitions_ascend}
+use Rattle.sp_shapes.proofs.Listing.{all_partitions, partitions_ascend, IsPartition-nil}
 use Rattle.sp_shapes.proofs.Order.{ascends_at}
 use Rattle.sp_ranks.specs.Ranks.{partition_at}
 use Rattle.sp_ranks.specs.Vectors.{entries_over, Climbs, IsHeldNonzero, IsOverRanks}
@@ -116,6 +119,51 @@ is_vector n ranks ps h = record {
   polynomials = all_over (λ t. IsLaurent t.1 × (t.1 ≢ [])) n (λ rank. rank < length (partitions n)) IsHeldNonzero
       (λ rank p _ k. (k.0.laurent, k.1)) ranks ps h.there h.polynomials;
 }
+
+-- ---- what is read at a place
+
+module _ (n : ℕ) (ranks : List ℕ) (ps : List Laurent) (v : FockVector) (k : ℕ) (h : IsOverRanks n ranks ps)
+    (is : record { degree = n; entries = entries_over n ranks ps } ≡ v) (lt : k < length v.entries) where
+  pub rank_there : k < length ranks
+  rank_there = omega (arith, ap (λ w. length w.entries) is, length-entries_over n ranks ps h.count)
+
+  entry_there : (partition_at n (get_or ranks k 0), get_or ps k []) ≡ get_or v.entries k ([], [])
+  entry_there =
+      sym (entries_over-at n ranks ps k h.count rank_there) ∙ ap (λ w. get_or w.entries k ([], [])) is
+
+  rank_is : (rank : ℕ) → rank ≡ get_or ranks k rank → rank ≡ get_or ranks k 0
+  rank_is rank read = get_or_read ranks k rank rank_there read 0
+
+  pub rank_within : (rank : ℕ) → rank ≡ get_or ranks k rank → rank < length (partitions v.degree)
+  rank_within rank read =
+      subst (λ w. rank < length (partitions w.degree)) is
+      (subst (λ r. r < length (partitions n)) (sym (rank_is rank read))
+      (all_at (λ r. r < length (partitions n)) ranks k 0 h.there rank_there))
+
+  pub partition_read : (rank : ℕ) → rank ≡ get_or ranks k rank →
+      partition_at v.degree rank ≡ (get_or v.entries k ([], [])).0
+  partition_read rank read =
+      ap₂ partition_at (sym (ap (λ w. w.degree) is)) (rank_is rank read) ∙ ap (λ t. t.0) entry_there
+
+  pub polynomial_read : get_or ps k [] ≡ (get_or v.entries k ([], [])).1
+  polynomial_read = ap (λ t. t.1) entry_there
+
+-- ---- the empty partition
+
+-- Its rank is 0.
+pub over_empty : IsOverRanks 0 (0 ∷ []) (one ∷ [])
+unfolding partitions partitions_within
+over_empty = record {
+  small = omega arith;
+  count = refl;
+  climbs = (tt, tt);
+  there = (omega arith, tt);
+  polynomials = ((held_monomial (pos 0) (pos 1) (omega arith) (omega arith), (λ e. cc)), tt);
+}
+
+pub empty_entries : entries_over 0 (0 ∷ []) (one ∷ []) ≡ entries 0 (unit [])
+unfolding entries_over partitions partitions_within
+empty_entries = sym (entries-unit [] IsPartition-nil)
 
 -- ---- one rank more
 
