@@ -6,21 +6,21 @@ use Rattle.std.specs.List.Sorted.{IsPermutation, IsSortedByKey}
 use Rattle.std.proofs.lemmas.List.{get_or-map, length-map}
 use Rattle.std.proofs.lemmas.List.Elements.{All-from_recursion, recursion_from_All}
 use Rattle.std.proofs.lemmas.List.Sorted.{All-permutation, IsNonDecreasingBy-from_sort, IsPermutation-map}
-use Rattle.sp_defs.specs.Partition.{degree, order, compare, partitions, IsPartitionOf}
+use Rattle.sp_defs.specs.Partition.{order, compare, partitions}
 use Rattle.sp_defs.specs.Power.{Entries, FockVector, IsVector, fock_vector, vector_of, divided_power, greatest}
 use Rattle.sp_defs.specs.Power.{induction_weight}
 use Rattle.sp_lists.proofs.Elements.{all_both, map_all, le_or_lt}
 use Rattle.sp_lists.proofs.Places.{all_at, all_weaken}
 use Rattle.sp_partition.specs.OrderLaws.{order_one_degree}
 use Rattle.sp_partition.specs.declared.TheConstants.{DEGREE_LIMIT}
-use Rattle.sp_shapes.proofs.Listing.{all_partitions, partitions_ascend}
-use Rattle.sp_shapes.proofs.Order.{ascends_at, equal_self, later_than}
+use Rattle.sp_shapes.proofs.Order.{equal_self, later_than}
 use Rattle.sp_power.specs.Arrivals.{half_power_limit, AllWithin, IsBrought, AreSorted}
 use Rattle.sp_power.proofs.Induced.{all_brought, sizes_by, sorted_by, vector_after, within_after}
 use Rattle.sp_power_law.specs.Runs.{arrivals, runs, sums_of, sizes_of}
 use Rattle.sp_ranks.specs.Arrivals.{arrival_at, arrivals_at, IsBroughtBy}
 use Rattle.sp_ranks.specs.Ranks.{partition_at}
 use Rattle.sp_ranks.specs.Sorted.{AreSortedByRank}
+use Rattle.sp_ranks.proofs.Overs.{earlier_rank, partition_there}
 use Rattle.sp_ranks.specs.declared.walk.Arrival.{Arrival}
 
 -- ---- the order of ranks is that of partitions
@@ -29,20 +29,17 @@ use Rattle.sp_ranks.specs.declared.walk.Arrival.{Arrival}
 pub ranks_in_order : (n a b : ℕ) → a ≤ b → b < length (partitions n) →
     is_lt (order (partition_at n b) (partition_at n a)) ≡ false
 ranks_in_order n a b le lt =
-    ap is_lt (order_one_degree (partition_at n b) (partition_at n a) (total b lt ∙ sym (total a (omega arith))))
+    ap is_lt
+    (order_one_degree (partition_at n b) (partition_at n a)
+    ((partition_there n b lt).total ∙ sym (partition_there n a (omega arith)).total))
     ∙ by_place (le_or_lt b a)
   where
-    total : (k : ℕ) → k < length (partitions n) → degree (partition_at n k) ≡ n
-    total k early = let h : IsPartitionOf n (partition_at n k) = all_at (IsPartitionOf n) (partitions n) k []
-        (all_partitions n) early in h.total
-
     by_place : (b ≤ a) ⊎ (a < b) → is_lt (compare (partition_at n b) (partition_at n a)) ≡ false
-    by_place (inl h) = let same : a ≡ b = omega arith in
+    by_place (inl h) =
+        let same : a ≡ b = omega arith in
         subst (λ k. is_lt (compare (partition_at n b) (partition_at n k)) ≡ false) (sym same)
         (ap is_lt (equal_self (partition_at n b)))
-    by_place (inr h) =
-        ap is_lt (later_than (partition_at n a) (partition_at n b)
-        (ascends_at (partitions n) (partitions_ascend n) a b h lt))
+    by_place (inr h) = ap is_lt (later_than (partition_at n a) (partition_at n b) (earlier_rank n a b h lt))
 
 -- What is sorted by ranks is sorted by partitions.
 pub sorted_at : (n : ℕ) (ts : List Arrival) → AllByRecursion (λ t. t.rank < length (partitions n)) ts →
