@@ -1,6 +1,6 @@
 -- Moves over ranks as moves of partitions: a run of one rank is a run of one partition.
-use Rattle.std.proofs.Common.{◌≡◌, ◌≢◌, ℕ, ◌+◌, ◌<◌, ◌≤◌, true, false, cond, nat_eq, List, [], ◌∷◌, map, take, drop}
-use Rattle.std.proofs.Common.{length, get_or, refl, sym, ◌∙◌, ap, ap₂, subst, arith, sum_by, ◌⊎◌, inl, inr, pos}
+use Rattle.std.proofs.Common.{◌≡◌, ◌≢◌, ℕ, ◌+◌, ◌<◌, ◌≤◌, true, false, cond, nat_eq, List, [], ◌∷◌, take, drop}
+use Rattle.std.proofs.Common.{length, get_or, refl, sym, ◌∙◌, ap, ap₂, arith, sum_by, ◌⊎◌, inl, inr, pos}
 use Rattle.std.proofs.lemmas.Bool.Decides.{eqb_tells}
 use Rattle.std.proofs.lemmas.List.{take-map, drop-map, length-map, get_or-map}
 use Rattle.std.specs.List.{AllByRecursion, prefix_len}

@@ -1,7 +1,7 @@
 -- Moves in order of the ranks, summed run by run: what each loop keeps.
-use Rattle.std.proofs.Common.{◌≡◌, ◌≢◌, ℕ, ◌+◌, ◌^◌, ◌<◌, ◌≤◌, Bool, true, false, cond, nat_eq, nat_lt, List, [], ◌∷◌, ◌++◌}
-use Rattle.std.proofs.Common.{take, drop, length, get_or, refl, sym, ◌∙◌, ap, ap₂, subst, arith, sum_by, append-nil}
-use Rattle.std.proofs.Common.{true≢false, pos, w32, ◌↔◌, IsTrue}
+use Rattle.std.proofs.Common.{◌≡◌, ◌≢◌, ℕ, ◌+◌, ◌^◌, ◌<◌, ◌≤◌, Bool, true, false, cond, nat_eq, nat_lt, List, []}
+use Rattle.std.proofs.Common.{◌∷◌, ◌++◌, take, drop, length, get_or, refl, sym, ◌∙◌, ap, ap₂, subst, arith, sum_by}
+use Rattle.std.proofs.Common.{append-nil, true≢false, pos, w32, ◌↔◌, IsTrue}
 use mir.Val.{to_z, of_z}
 use Rattle.std.proofs.lemmas.Bool.{eqb-false}
 use Rattle.std.proofs.lemmas.List.{take_all, length-map, get_or-map, get_or_default}
@@ -77,7 +77,8 @@ adds_share n es t terms sum new b is added =
 
 module _ (es : Entries) (run : List Arrival) (count : ℕ) (sum : Laurent) (h : RunSum es run count sum) where
   pub sum_laurent : IsLaurent sum
-  sum_laurent = subst IsLaurent (sym h.so_far.sum_is) (IsLaurent-sum_over (take count (arrivals_at 0 run)) (share_of es))
+  sum_laurent =
+      subst IsLaurent (sym h.so_far.sum_is) (IsLaurent-sum_over (take count (arrivals_at 0 run)) (share_of es))
 
   module _ (lt : count < length run) where
     abbrev t : Arrival
@@ -247,9 +248,9 @@ module _ (n : ℕ) (es : Entries) (arrivals : List Arrival) (limit : ℕ) (ranks
         new_ps ≡ cond (nat_lt 0 (length sum)) (ps ++ (sum ∷ [])) ps →
         RankProgress n es arrivals limit new_ranks new_ps later
     rank_further sum new_ranks new_ps fits is held ranks_are ps_are =
-        subst (λ l. RankProgress n es arrivals limit l new_ps later) (sym ranks_are)
-        (subst (λ l. RankProgress n es arrivals limit (cond (nat_lt 0 (length sum)) (ranks ++ (rank ∷ [])) ranks) l later)
-        (sym ps_are) further)
+        subst (λ l. RankProgress n es arrivals limit new_ranks l later) (sym ps_are)
+        (subst (λ l. RankProgress n es arrivals limit l (cond (nat_lt 0 (length sum)) (ps ++ (sum ∷ [])) ps) later)
+        (sym ranks_are) further)
       where
         further : RankProgress n es arrivals limit (cond (nat_lt 0 (length sum)) (ranks ++ (rank ∷ [])) ranks)
             (cond (nat_lt 0 (length sum)) (ps ++ (sum ∷ [])) ps) later

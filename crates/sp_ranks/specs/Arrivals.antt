@@ -1,5 +1,5 @@
 -- What moves over ranks are as moves of partitions.
-use Rattle.std.specs.Prelude.{ℕ, ◌+◌, ◌<◌, ◌≤◌, List, [], map, length, unsigned_abs, ℤ}
+use Rattle.std.specs.Prelude.{ℕ, ◌<◌, ◌≤◌, List, map, length, unsigned_abs}
 use Rattle.std.specs.List.{AllByRecursion}
 use Rattle.sp_defs.specs.Laurent.{Laurent, power, times, size}
 use Rattle.sp_defs.specs.Power.{Entries}

@@ -4,7 +4,8 @@ use Rattle.sp_defs.specs.Laurent.{size}
 use Rattle.sp_lists.proofs.Places.{all_at}
 use Rattle.sp_ranks.specs.Arrivals.{IsBroughtBy}
 use Rattle.sp_ranks.proofs.RankRuns.{nothing}
-use Rattle.sp_ranks.proofs.RankSums.{adds_share, no_sum, one_fits, one_more, sum_all, sum_held, sum_laurent, terms_within}
+use Rattle.sp_ranks.proofs.RankSums.{adds_share, no_sum, one_fits, one_more, sum_all, sum_held, sum_laurent}
+use Rattle.sp_ranks.proofs.RankSums.{terms_within}
 use Rattle.sp_ranks.proofs.sums.add_run.Goals as goal
 
 pub loop-arrival-init : goal.loop-arrival-init
@@ -21,8 +22,8 @@ add_multiple-requires-clause-fits c =
       arith,
       ap size c.terms.ensures.value,
       one_fits c.args.v.now.entries c.args.run.now
-          c.loop-arrival.arrival-index c.loop-arrival.sum.items c.loop-arrival.invariant c.loop-arrival-test.true (2 ^ 127)
-          c.requires.fits,
+          c.loop-arrival.arrival-index c.loop-arrival.sum.items c.loop-arrival.invariant c.loop-arrival-test.true
+          (2 ^ 127) c.requires.fits,
     )
 
 pub add_multiple-requires-clause-within : goal.add_multiple-requires-clause-within

@@ -1,13 +1,10 @@
 -- The run ends at the first move to another rank.
-use Rattle.std.proofs.Common.{◌≡◌, arith, true, false, nat_eq, eq-eqb}
+use Rattle.std.proofs.Common.{arith, nat_eq, eq-eqb}
 use Rattle.std.proofs.lemmas.Bool.{ne_eqb}
 use Rattle.std.proofs.lemmas.List.Sums.{prefix_len-drop_all, prefix_len-drop_no, prefix_len-drop_yes}
 use Rattle.sp_ranks.specs.declared.walk.Arrival.{Arrival}
-use Rattle.std.proofs.Common.{pos}
+use Rattle.sp_ranks.proofs.RankRuns.{nothing}
 use Rattle.sp_ranks.proofs.sums.run_length.Goals as goal
-
-abbrev nothing : Arrival
-nothing = record { rank = 0; source = 0; exponent = pos 0 }
 
 pub returns-then-arrival-rank : goal.returns-then-arrival-rank
 returns-then-arrival-rank c =

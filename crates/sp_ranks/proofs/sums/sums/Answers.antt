@@ -20,20 +20,21 @@ loop-rest-init c =
 pub split_at-requires : goal.split_at-requires
 split_at-requires c =
     subst (λ n. n ≤ length c.loop-rest.rest.now) (sym c.run_length.ensures)
-    (prefix_len-le-length (λ (t : Arrival). nat_eq t.rank (get_or c.loop-rest.rest.now 0 nothing).rank) c.loop-rest.rest.now)
+    (prefix_len-le-length (λ (t : Arrival). nat_eq t.rank (get_or c.loop-rest.rest.now 0 nothing).rank)
+    c.loop-rest.rest.now)
 
 pub run_fits-requires : goal.run_fits-requires
 run_fits-requires c =
-    run_sources c.args.n c.args.v.now.entries c.args.arrivals.now c.args.limit c.loop-rest.ranks.items c.loop-rest.polynomials
-    c.loop-rest.rest.now c.loop-rest.invariant
+    run_sources c.args.n c.args.v.now.entries c.args.arrivals.now c.args.limit c.loop-rest.ranks.items
+    c.loop-rest.polynomials c.loop-rest.rest.now c.loop-rest.invariant
     (get_or c.loop-rest.rest.now 0 nothing).rank c.split_at.result.0.now c.split_at.result.1.now
     (rank_split c.loop-rest.rest.now c.split_at.result.0.now c.split_at.result.1.now c.run_length.result
     c.in-len1-up.len_at_least c.run_length.ensures c.split_at.ensures.front c.split_at.ensures.back)
 
 pub returns-then-not-run_fits-clause-too_large : goal.returns-then-not-run_fits-clause-too_large
 returns-then-not-run_fits-clause-too_large c = λ _.
-    rank_past c.args.n c.args.v.now.entries c.args.arrivals.now c.args.limit c.loop-rest.ranks.items c.loop-rest.polynomials
-    c.loop-rest.rest.now c.loop-rest.invariant
+    rank_past c.args.n c.args.v.now.entries c.args.arrivals.now c.args.limit c.loop-rest.ranks.items
+    c.loop-rest.polynomials c.loop-rest.rest.now c.loop-rest.invariant
     (get_or c.loop-rest.rest.now 0 nothing).rank c.split_at.result.0.now c.split_at.result.1.now
     (rank_split c.loop-rest.rest.now c.split_at.result.0.now c.split_at.result.1.now c.run_length.result
     c.in-len1-up.len_at_least c.run_length.ensures c.split_at.ensures.front c.split_at.ensures.back)
@@ -43,8 +44,8 @@ returns-then-not-run_fits-clause-too_large c = λ _.
 pub add_run-requires-clause-brought : goal.add_run-requires-clause-brought
 add_run-requires-clause-brought c = (
   c.args.n,
-  run_is_brought c.args.n c.args.v.now.entries c.args.arrivals.now c.args.limit c.loop-rest.ranks.items c.loop-rest.polynomials
-      c.loop-rest.rest.now c.loop-rest.invariant
+  run_is_brought c.args.n c.args.v.now.entries c.args.arrivals.now c.args.limit c.loop-rest.ranks.items
+      c.loop-rest.polynomials c.loop-rest.rest.now c.loop-rest.invariant
       (get_or c.loop-rest.rest.now 0 nothing).rank c.split_at.result.0.now c.split_at.result.1.now
       (rank_split c.loop-rest.rest.now c.split_at.result.0.now c.split_at.result.1.now c.run_length.result
       c.in-len1-up.len_at_least c.run_length.ensures c.split_at.ensures.front c.split_at.ensures.back),
@@ -52,16 +53,16 @@ add_run-requires-clause-brought c = (
 
 pub loop-rest-smaller : goal.loop-rest-smaller
 loop-rest-smaller c =
-    rank_shorter c.args.n c.args.v.now.entries c.args.arrivals.now c.args.limit c.loop-rest.ranks.items c.loop-rest.polynomials
-    c.loop-rest.rest.now c.loop-rest.invariant
+    rank_shorter c.args.n c.args.v.now.entries c.args.arrivals.now c.args.limit c.loop-rest.ranks.items
+    c.loop-rest.polynomials c.loop-rest.rest.now c.loop-rest.invariant
     (get_or c.loop-rest.rest.now 0 nothing).rank c.split_at.result.0.now c.split_at.result.1.now
     (rank_split c.loop-rest.rest.now c.split_at.result.0.now c.split_at.result.1.now c.run_length.result
     c.in-len1-up.len_at_least c.run_length.ensures c.split_at.ensures.front c.split_at.ensures.back)
 
 pub loop-rest-preserved : goal.loop-rest-preserved
 loop-rest-preserved c =
-    rank_further c.args.n c.args.v.now.entries c.args.arrivals.now c.args.limit c.loop-rest.ranks.items c.loop-rest.polynomials
-    c.loop-rest.rest.now c.loop-rest.invariant
+    rank_further c.args.n c.args.v.now.entries c.args.arrivals.now c.args.limit c.loop-rest.ranks.items
+    c.loop-rest.polynomials c.loop-rest.rest.now c.loop-rest.invariant
     (get_or c.loop-rest.rest.now 0 nothing).rank c.split_at.result.0.now c.split_at.result.1.now
     (rank_split c.loop-rest.rest.now c.split_at.result.0.now c.split_at.result.1.now c.run_length.result
     c.in-len1-up.len_at_least c.run_length.ensures c.split_at.ensures.front c.split_at.ensures.back)
@@ -76,12 +77,12 @@ over-requires c = c.loop-rest.invariant.over
 pub returns-clause-sums : goal.returns-clause-sums
 returns-clause-sums c =
     ap (λ (w : FockVector). w.entries) c.over.ensures
-    ∙ ranks_summed c.args.n c.args.v.now.entries c.args.arrivals.now c.args.limit c.loop-rest.ranks.items c.loop-rest.polynomials
-    c.loop-rest.rest.now c.loop-rest.invariant
+    ∙ ranks_summed c.args.n c.args.v.now.entries c.args.arrivals.now c.args.limit c.loop-rest.ranks.items
+    c.loop-rest.polynomials c.loop-rest.rest.now c.loop-rest.invariant
     c.in_default.len_below
 
 pub returns-clause-fits : goal.returns-clause-fits
 returns-clause-fits c =
-    ranks_fit c.args.n c.args.v.now.entries c.args.arrivals.now c.args.limit c.loop-rest.ranks.items c.loop-rest.polynomials
-    c.loop-rest.rest.now c.loop-rest.invariant
+    ranks_fit c.args.n c.args.v.now.entries c.args.arrivals.now c.args.limit c.loop-rest.ranks.items
+    c.loop-rest.polynomials c.loop-rest.rest.now c.loop-rest.invariant
     c.in_default.len_below
