@@ -1,6 +1,6 @@
 -- Moves in order of the ranks, summed run by run: what each loop keeps.
 use Rattle.std.proofs.Common.{◌≡◌, ◌≢◌, ℕ, ◌+◌, ◌^◌, ◌<◌, ◌≤◌, Bool, true, false, cond, nat_eq, nat_lt, List, []}
-use Rattle.std.proofs.Common.{◌∷◌, ◌++◌, take, drop, length, get_or, refl, sym, ◌∙◌, ap, ap₂, subst, arith, sum_by}
+use Rattle.std.proofs.Common.{◌∷◌, ◌++◌, take, length, get_or, refl, sym, ◌∙◌, ap, ap₂, subst, arith, sum_by}
 use Rattle.std.proofs.Common.{append-nil, true≢false, pos, w32, ◌↔◌, IsTrue}
 use mir.Val.{to_z, of_z}
 use Rattle.std.proofs.lemmas.Bool.{eqb-false}
