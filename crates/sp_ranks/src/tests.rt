@@ -2,7 +2,7 @@
 ghost use Rattle.std.specs.Prelude.{◌≤◌, ◌<◌, ◌^◌};
 
 use crate::{Moves, ladder_vector};
-use sp_partition::Partition;
+use sp_partition::{Partition, rank};
 use sp_power::PowerFault;
 use std::alloc::Global;
 use std::test::Fail;
@@ -41,5 +41,42 @@ fn ladder_vectors_and_limits(rt: HostRuntime) -> Result<(), Fail> {
     let alloc = rt.alloc();
     // [5] + [3,2] + 2v[3,1^2] + v^2[2^2,1] + v^2[1^5]
     assert_eq!(rt; counted(alloc, 2, &[5], 2)?, (5, 5, 6));
+    Ok(())
+}
+
+/// The rank that the partition of these parts, one of n, grows to in this row. None where it doesn't grow there.
+fn grown_rank(moves: &Moves, n: u8, parts: &[u8], row: u8) -> Option<u16>
+    requires { n < moves.now }
+{
+    let p = Partition::from_parts(parts).unwrap_or(Partition::empty());
+    let place = rank(moves.partitions(n), &p)?;
+    if !p.can_grow(row) {
+        return None;
+    }
+    Some(moves.grown(n, place as u16, row))
+}
+
+#[test]
+fn ranks_of_grown_partitions(rt: HostRuntime) -> Result<(), Fail> {
+    // of 3: [1^3], [2,1], [3]; of 4: [1^4], [2,1^2], [2^2], [3,1], [4]
+    let moves = Moves::open(rt.alloc(), 4)?;
+    assert_eq!(rt; moves.partitions(4).len(), 5);
+    assert_eq!(rt; grown_rank(&moves, 3, &[2, 1], 1), Some(3));
+    assert_eq!(rt; grown_rank(&moves, 3, &[2, 1], 2), Some(2));
+    assert_eq!(rt; grown_rank(&moves, 3, &[2, 1], 3), Some(1));
+    assert_eq!(rt; grown_rank(&moves, 3, &[3], 1), Some(4));
+    assert_eq!(rt; grown_rank(&moves, 0, &[], 1), Some(0));
+    Ok(())
+}
+
+#[test]
+fn first_and_last_ranks_and_rows_that_do_not_grow(rt: HostRuntime) -> Result<(), Fail> {
+    // There are 77 partitions of 12.
+    let moves = Moves::open(rt.alloc(), 12)?;
+    assert_eq!(rt; grown_rank(&moves, 11, &[11], 1), Some(76));
+    assert_eq!(rt; grown_rank(&moves, 11, &[1; 11], 12), Some(0));
+    assert_eq!(rt; grown_rank(&moves, 11, &[1; 11], 11), None);
+    assert_eq!(rt; grown_rank(&moves, 4, &[2, 2], 2), None);
+    assert_eq!(rt; grown_rank(&moves, 4, &[2, 2], 4), None);
     Ok(())
 }
