@@ -5,7 +5,7 @@ use Rattle.std.specs.List.{AllByRecursion}
 use Rattle.std.proofs.lemmas.List.{get_or_read}
 use Rattle.sp_defs.specs.Laurent.{Laurent, IsLaurent, one}
 use Rattle.sp_defs.specs.Partition.{partitions, partitions_within, Ascending, IsEarlier, IsPartitionOf}
-use Rattle.sp_defs.specs.Power.{Entries, FockVector, IsVector, entries, unit}
+use Rattle.sp_defs.specs.Power.{FockVector, IsVector, entries, unit}
 use Rattle.sp_laurent.specs.Held.{IsHeld}
 use Rattle.sp_laurent.proofs.Held.{held_monomial}
 use Rattle.sp_fock_law.proofs.Single.{entries-unit}

@@ -1,5 +1,5 @@
 // Polynomials with all their terms in one list.
-ghost use Rattle.std.specs.Prelude.{◌≡◌, ◌<◌, ◌≤◌, ◌++◌, [], ◌∷◌, length, get_or, OnOk, IfOk};
+ghost use Rattle.std.specs.Prelude.{◌≡◌, ◌<◌, ◌++◌, [], ◌∷◌, length, get_or, OnOk};
 ghost use Rattle.sp_laurent.specs.Held.{IsHeld};
 ghost use Rattle.sp_ranks.specs.Polynomials.{begin_of};
 

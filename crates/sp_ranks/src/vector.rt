@@ -1,5 +1,5 @@
 // Vectors over ranks.
-ghost use Rattle.std.specs.Prelude.{◌≡◌, ◌^◌, ◌<◌, ◌≤◌, ◌++◌, ◌∷◌, [], length, get_or, IfOk, OnOk};
+ghost use Rattle.std.specs.Prelude.{◌≡◌, ◌^◌, ◌<◌, ◌≤◌, [], length, get_or, IfOk};
 ghost use Rattle.sp_defs.specs.Partition.{partitions};
 ghost use Rattle.sp_defs.specs.Power.{fock_vector, unit, IsVector};
 ghost use Rattle.sp_laurent.specs.Held.{IsHeld};

@@ -1,4 +1,4 @@
-use Rattle.std.proofs.Common.{[], refl, ap₂}
+use Rattle.std.proofs.Common.{refl, ap₂}
 use Rattle.sp_ranks.specs.Polynomials.{pieces}
 use Rattle.sp_ranks.proofs.polynomials.Polynomials.new.Goals as goal
 

@@ -1,5 +1,4 @@
 use Rattle.std.proofs.Common.{◌≡◌, ℕ, List, length, ◌∙◌, ap, arith}
-use Rattle.sp_laurent.specs.Held.{IsHeld}
 use Rattle.sp_ranks.specs.Polynomials.{begin_of}
 use Rattle.sp_ranks.proofs.Pieces.{LiesWithin, place_there, place_within, place_read, place_held}
 use Rattle.sp_ranks.proofs.polynomials.Polynomials.terms.Goals as goal

@@ -1,6 +1,5 @@
-use Rattle.std.proofs.Common.{pos, ◌∙◌, ap, ap₂, ◌++◌, ◌∷◌, [], arith}
+use Rattle.std.proofs.Common.{pos, ap, arith}
 use Rattle.sp_laurent.proofs.Held.{held_monomial}
-use Rattle.sp_ranks.specs.Vectors.{entries_over}
 use Rattle.sp_ranks.proofs.Overs.{over_empty, empty_entries}
 use Rattle.sp_ranks.proofs.vector.RankVector.one.Goals as goal
 
