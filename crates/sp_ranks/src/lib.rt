@@ -1,7 +1,7 @@
 //! Ladder vectors over ranks: a partition is said by its place among all of its degree, ascending.
 //!
-//! [`Moves`] knows to which ranks the partitions of each degree grow. So a divided power of a [`RankVector`] is made with
-//! no partition moved and none compared.
+//! [`Moves`] knows to which ranks the partitions of each degree grow. So a divided power of a [`RankVector`] is made
+//! with no partition moved and none compared.
 #![tactic(auto)]
 
 mod induction;

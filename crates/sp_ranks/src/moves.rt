@@ -18,8 +18,8 @@ pub struct Moves {
     degree: u8,
     // The partitions of each degree.
     lists: Vec<Vec<Partition>>,
-    // For each degree but the last, for each of its partitions, for each row that is filled or the next one: the rank of
-    // the partition with a node more in this row, where the row has an addable node.
+    // For each degree but the last, for each of its partitions, for each row that is filled or the next one: the rank
+    // of the partition with a node more in this row, where the row has an addable node.
     gains: Vec<Vec<Vec<u16>>>,
 }
 

@@ -17,3 +17,9 @@ loop-row-preserved c =
           (subst (λ row. is_gain row c.gain.result) (sym c.loop-row.invariant.count) c.gain.ensures) k d
           (omega (arith, ap length more, length-append gains (c.gain.result ∷ []))));
     }
+
+pub returns : goal.returns
+returns c = record {
+  count = omega (arith, c.row_count-count.ensures.value);
+  each = λ k d lt. c.loop-row.invariant.each k d (omega (arith, c.row_count-count.ensures.value));
+}
