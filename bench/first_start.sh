@@ -3,8 +3,7 @@
 # in which `rt` keeps what it proved is covered by an empty one, in a mount namespace of this script's own, so nothing
 # of the machine is removed. It wants root, and some 10 GB of disk under TMPDIR. Nothing else should run meanwhile.
 # Usage: bench/first_start.sh [start] [gate]     both where none is named
-set -u
-top=$(cd "$(dirname "$0")/.." && pwd)
+. "$(dirname "$0")/measure.sh"
 if [ -z "${FIRST_START_ALONE:-}" ]; then
   exec env FIRST_START_ALONE=1 unshare --mount "$0" "$@"
 fi

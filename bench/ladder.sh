@@ -1,20 +1,20 @@
 #!/usr/bin/env bash
 # Times ladder vectors, and compares with the plain definition's program where that one ends within a minute.
 # Usage: bench/ladder.sh [RUNS]. Seconds by the clock are the least of RUNS runs (five).
-set -u
-top=$(cd "$(dirname "$0")/.." && pwd)
-"$top/specht_one" "$top/examples/first.txt" >/dev/null || exit 1
+. "$(dirname "$0")/measure.sh"
+build specht_one
 
-PYTHONDONTWRITEBYTECODE=1 PYTHONPATH=$top/bench python3 - "$top" "${1:-5}" <<'PY'
+measure "${1:-5}" <<'PY'
 import sys
 import timing
 from plain_ladder import is_regular, partitions
-top, runs = sys.argv[1], int(sys.argv[2])
+from timing import ALONE, TOP
+runs = int(sys.argv[1])
 
 def plain(arguments):
     """The seconds of one run of the plain definition, or None past a minute."""
     try:
-        return timing.run(["timeout", "60", sys.executable, f"{top}/bench/plain_ladder.py", *arguments]).clock
+        return timing.run(["timeout", "60", sys.executable, f"{TOP}/bench/plain_ladder.py", *arguments]).clock
     except timing.Failed:
         return None
 
@@ -25,7 +25,7 @@ for name, lines, arguments in (
     ("all ladder vectors of degree 16 at e = 2", [f"ladder 2 {p}" for p in labels], ["2", "16", "--all"]),
 ):
     text = "".join(f"{line}\n" for line in lines).encode()
-    ours = timing.least({name: ([f"{top}/crates/specht_one/out/specht_one"], text)}, runs)[name][0]
+    ours = timing.least({name: ([ALONE], text)}, runs)[name][0]
     theirs = plain(arguments)
     if theirs is None:
         print(f"{name}: {ours:.4f} s, plain definition past a minute", flush=True)

@@ -4,17 +4,16 @@
 # size; and the list of the fillings of one partition with most of them, for each. The products were found by a search
 # through all pairs. The sum of the coefficients has to be the number of fillings that stands behind a product.
 # Usage: bench/products.sh [RUNS]
-set -u
-top=$(cd "$(dirname "$0")/.." && pwd)
-"$top/specht_one" "$top/examples/first.txt" >/dev/null || exit 1
+. "$(dirname "$0")/measure.sh"
+build specht_one
 
-PYTHONDONTWRITEBYTECODE=1 PYTHONPATH=$top/bench python3 - "$top" "${1:-5}" <<'PY'
+measure "${1:-5}" <<'PY'
 import re
 import shutil
 import sys
 import timing
-top, runs = sys.argv[1], int(sys.argv[2])
-alone = f"{top}/crates/specht_one/out/specht_one"
+from timing import ALONE
+runs = int(sys.argv[1])
 
 products = [
     ("5,4,3,2,1", "5,4,3,2,1", 26704),
@@ -35,7 +34,7 @@ def parts(text):
 
 
 asked = "".join(f"product {lam} {mu}\n" for lam, mu, _ in products).encode()
-answers = timing.run([alone], asked, keep=True).output.decode().splitlines()
+answers = timing.run([ALONE], asked, keep=True).output.decode().splitlines()
 lists = ""
 for (lam, mu, count), answer in zip(products, answers, strict=True):
     terms = [(int(number or 1), nu) for number, nu in re.findall(r"(\d*)\[([^]]*)\]", answer)]
@@ -46,7 +45,7 @@ for (lam, mu, count), answer in zip(products, answers, strict=True):
     if found != count:
         raise SystemExit(f"{count} were expected")
 
-commands = {"product": ([alone], asked), "fillings": ([alone], lists.encode())}
+commands = {"product": ([ALONE], asked), "fillings": ([ALONE], lists.encode())}
 if shutil.which("lrcalc"):
     lines = [f"lrcalc mult {parts(lam)} - {parts(mu)}" for lam, mu, _ in products]
     commands["lrcalc"] = (["sh", "-c", "\n".join(lines)], b"")

@@ -5,6 +5,10 @@ import tempfile
 import time
 from collections import namedtuple
 
+TOP = os.path.dirname(os.path.dirname(os.path.abspath(__file__)))
+# the programs on one thread and by many workers
+ALONE, MANY = (f"{TOP}/crates/{it}/out/{it}" for it in ("specht_one", "specht"))
+
 # seconds by the clock and of the processor, the greatest resident size in MB, and what was written where that is kept
 Run = namedtuple("Run", "clock processor memory output")
 
@@ -43,3 +47,8 @@ def least(commands, runs, by="clock", outputs=None):
             if outputs is not None:
                 outputs.add(ran.output)
     return best
+
+
+def told(best, digits=3):
+    """The seconds and MB of each name, in one line."""
+    return ", ".join(f"{name} {seconds:.{digits}f} s {memory:.0f} MB" for name, (seconds, memory) in best.items())

@@ -5,23 +5,21 @@
 # nearly all of its time is the making of rows and of the matrix.
 # Usage: bench/workers.sh [RUNS [ONE_TABLE]]. ONE_TABLE is the path of a `specht` whose workers share one table for all
 # rows (built from a commit where `sp_session::run` called `sp_pool::fill`): it is timed beside by 1 and 4 workers.
-set -u
-top=$(cd "$(dirname "$0")/.." && pwd)
-for program in specht specht_one; do
-  "$top/$program" "$top/examples/first.txt" >/dev/null || exit 1
-done
+. "$(dirname "$0")/measure.sh"
+build specht specht_one
 
-PYTHONDONTWRITEBYTECODE=1 PYTHONPATH=$top/bench python3 - "$top" "${1:-5}" "${2:-}" <<'PY'
-import os, sys
+measure "${1:-5}" "${2:-}" <<'PY'
+import os
+import sys
 import timing
-top, runs = sys.argv[1], int(sys.argv[2])
-many, alone = (f"{top}/crates/{it}/out/{it}" for it in ("specht", "specht_one"))
-programs = {"one thread": [alone]}
+from timing import ALONE, MANY
+runs, one_table = int(sys.argv[1]), sys.argv[2]
+programs = {"one thread": [ALONE]}
 for count in (1, 2, 4):
-    programs[f"{count} workers"] = [many, "--workers", str(count)]
-if sys.argv[3]:
+    programs[f"{count} workers"] = [MANY, "--workers", str(count)]
+if one_table:
     for count in (1, 4):
-        programs[f"{count} workers, one table"] = [sys.argv[3], "--workers", str(count)]
+        programs[f"{count} workers, one table"] = [one_table, "--workers", str(count)]
 
 print(f"{os.cpu_count()} processors")
 for line in ("crystal 2 30", "crystal 3 30", "dims 2 30", "dims 3 30"):

@@ -4,7 +4,8 @@
 Usage: tools/hostile_inputs.py PROGRAM...     the paths of `specht` and `specht_one`
 
 Each input has up to 16 MiB, and bounds of its own on both; the time of `wc` on the same bytes stands beside. One
-line is printed for each; the status is 1 where a bound was passed or an answer was another than it must be. """
+line is printed for each run, and `specht` runs by 1 and by 4 workers; the status is 1 where a bound was passed or an
+answer was another than it must be. """
 
 import os
 import random
@@ -52,12 +53,13 @@ def many_terms():
 
 
 # Each input: its name, its bytes in pieces, what its output begins with, and the bounds on seconds and on MB. A run
-# over the rows of degree 30 is stopped after ten seconds: it answers some dozens of them in each.
+# over the rows or pages of degree 30 is stopped after ten seconds: it answers some of them in each.
 INPUTS = [
     ("newlines", filled(b"\n"), b"", 3, 24),
     ("one line", filled(b"a"), b"error 12 line past 4096 bytes\n", 3, 64),
     ("random bytes", noise(), b"error ", 6, 24),
     ("row 2 30, 2 MB of it", filled(b"row 2 30\n", 2_000_000), b"[30] + v[", None, 200),
+    ("crystal 2 30, 2 MB of it", filled(b"crystal 2 30\n", 2_000_000), b"columns 30 29,1 28,2 ", None, 200),
     ("painters' names", filled(b"painter " + b"x" * 4_000 + b"\n"), b"error 14 ", 3, 24),
     ("partitions of 4,000 bytes", filled(b"conjugate 1" + b",1" * 2_000 + b"\n"), b"error 6 ", 3, 24),
     ("numbers of 4,000 digits", filled(b"partitions " + b"9" * 4_000 + b"\n"), b"error 6 ", 3, 24),
@@ -93,22 +95,30 @@ def measured(command, path, out, patience=None):
     return os.waitstatus_to_exitcode(status), seconds, usage.ru_maxrss / 1000
 
 
-def look(program, name, path, out, begins, most_seconds, most_mb):
-    """Whether a program's run on an input is within the bounds and begins as it must; prints a line."""
-    code, seconds, mb = measured([program], path, out, None if most_seconds else PATIENCE)
+def commands(program):
+    """The name and the words of each run of a program: of the one with workers two."""
+    name = os.path.basename(program)
+    if name != "specht":
+        return [(name, [program])]
+    return [(f"{name}, {count}", [program, "--workers", count]) for count in ("1", "4")]
+
+
+def look(told, command, name, path, out, begins, most_seconds, most_mb):
+    """Whether a command's run on an input is within the bounds and begins as it must; prints a line."""
+    code, seconds, mb = measured(command, path, out, None if most_seconds else PATIENCE)
     with open(out, "rb") as file:
         answered = file.read(len(begins)) == begins
     fine = code in (None, 0) and answered and mb <= most_mb and (not most_seconds or seconds <= most_seconds)
     size = os.path.getsize(path) / 1_048_576
-    told = f"{os.path.basename(program):10} {name:30} {size:5.1f} MiB {seconds:6.2f} s {mb:5.0f} MB"
-    print(told if fine else f"{told}  WRONG", flush=True)
+    line = f"{told:10} {name:30} {size:5.1f} MiB {seconds:6.2f} s {mb:5.0f} MB"
+    print(line if fine else f"{line}  WRONG", flush=True)
     return fine
 
 
 def main():
     """All inputs through all programs."""
-    programs = [os.path.abspath(path) for path in sys.argv[1:]]
-    if not programs:
+    runs = [run for path in sys.argv[1:] for run in commands(os.path.abspath(path))]
+    if not runs:
         print(__doc__, file=sys.stderr)
         return 2
     wrong = 0
@@ -120,8 +130,8 @@ def main():
                     file.write(piece)
             _, seconds, _ = measured(["wc"], path, "/dev/null")
             print(f"{'wc':10} {name:30} {os.path.getsize(path) / 1_048_576:5.1f} MiB {seconds:6.2f} s")
-            for program in programs:
-                wrong += not look(program, name, path, out, begins, most_seconds, most_mb)
+            for told, command in runs:
+                wrong += not look(told, command, name, path, out, begins, most_seconds, most_mb)
     print(f"hostile inputs: {wrong} wrong")
     return 1 if wrong else 0
 

@@ -1,5 +1,5 @@
 // The cells of a table that aren't 0.
-ghost use Rattle.std.specs.Prelude.{◌≡◌, ◌+◌, ◌++◌, ◌∷◌, [], IfOk, OnOk, length, map};
+ghost use Rattle.std.specs.Prelude.{◌≡◌, IfOk, OnOk, length, map};
 ghost use Rattle.sp_defs.specs.Laurent.{Laurent as LaurentValue};
 ghost use Rattle.sp_defs.specs.Power.{vector_of};
 ghost use Rattle.sp_fock_law.specs.Sparse.{IsSparse, spread};
@@ -10,7 +10,7 @@ ghost use Rattle.sp_matrix.specs.Walk.{line_cells, vectors_of};
 
 use crate::cursors::{end_at, ends_of};
 use crate::scope::Form;
-use sp_fock::Vector;
+use sp_fock::{Vector, push_cell};
 use sp_laurent::Laurent;
 use sp_partition::Partition;
 use std::alloc::{AllocError, Global};
@@ -91,20 +91,4 @@ fn shown_as(alloc: Global, coefficient: &Laurent, form: Form) -> Result<Laurent,
             Laurent::monomial(alloc, coefficient.at_one(), 0)
         }
     }
-}
-
-// Appends the cell of the next column, unless it is 0.
-fn push_cell(
-    cells: &mut Vec<(usize, Laurent)>,
-    place: usize,
-    cell: Laurent,
-) -> Result<(), AllocError>
-    requires { IsSparse place cells.old.items }
-    ensures value { OnOk result (spread (place + 1) cells.new.items ≡ spread place cells.old.items ++ cell ∷ []) }
-    ensures sparse { OnOk result (IsSparse (place + 1) cells.new.items) }
-{
-    if !cell.terms().is_empty() {
-        cells.push((place, cell))?;
-    }
-    Ok(())
 }

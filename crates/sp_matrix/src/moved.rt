@@ -1,10 +1,10 @@
 // The cells of a grid, with its lines and columns in another order.
-ghost use Rattle.std.specs.Prelude.{◌≡◌, ◌+◌, ◌<◌, ◌++◌, ◌∷◌, [], IfOk, OnOk, length, map, vec_len};
+ghost use Rattle.std.specs.Prelude.{◌≡◌, ◌<◌, ◌++◌, IfOk, OnOk, length, map, vec_len};
 ghost use Rattle.std.specs.List.{AllByRecursion};
 ghost use Rattle.sp_fock_law.specs.Grid.{cell_of, row_of};
 ghost use Rattle.sp_fock_law.specs.Sparse.{IsSparse, spread};
 ghost use Rattle.sp_fock.specs.Cells.{AreSparse, spread_rows};
-ghost use Rattle.sp_fock.specs.Rows.{polynomial_of};
+ghost use Rattle.sp_fock.specs.Rows.{cells_at, polynomial_of};
 
 use sp_fock::Grid;
 use sp_laurent::Laurent;
@@ -78,9 +78,7 @@ fn push_copy(
     place: usize,
     cell: &Laurent,
 ) -> Result<(), AllocError>
-    requires { IsSparse place cells.old.items }
-    ensures value { OnOk result (spread (place + 1) cells.new.items ≡ spread place cells.old.items ++ cell.now ∷ []) }
-    ensures sparse { OnOk result (IsSparse (place + 1) cells.new.items) }
+    ensures { OnOk result (cells.new.items ≡ cells.old.items ++ cells_at place cell.now) }
 {
     if !cell.terms().is_empty() {
         cells.push((place, cell.copy(alloc)?))?;

@@ -4,7 +4,7 @@ use Rattle.sp_fock_law.specs.Grid.{GridValue, cell_of}
 use Rattle.sp_grid_law.specs.Columns.{AreWithin, IsGreatestPast}
 use Rattle.sp_grid_law.specs.Inverses.{IsInverse, IsInverseWithin}
 use Rattle.sp_grid_law.specs.Solved.{inverse_of, solution}
-use Rattle.sp_grid_law.specs.Tables.{tabulated, transposed}
+use Rattle.sp_grid_law.specs.Tables.{transposed}
 use Rattle.sp_grid_law.proofs.InverseLaw.{inverse_is, only_inverse}
 use Rattle.sp_grid_law.proofs.Lines.{transposed_back}
 use Rattle.sp_inverse.specs.declared.fault.GridFault.TheVariants.{TooLarge}
@@ -43,33 +43,26 @@ from_cells-turned-requires-clause-sparse c =
     (c.in_ok-from_slice-2.ensures.items ∙ c.columns.ensures.value) c.in_ok-columns.ensures.columns
 
 -- What is returned is the grid of the solutions.
-made : (g turned h : GridValue) → h ≡ transposed turned →
-    turned ≡ tabulated g.degree g.lines g.columns (λ line column. solution (cell_of g) column line) → h ≡ inverse_of g
-made g turned h e is = e ∙ ap transposed is ∙ transposed_back g.degree g.columns g.lines (solution (cell_of g))
+made : (c : goal.After-drop-turned-inside-5) → c.in_ok-transpose.field-0 ≡ inverse_of c.args.g.now
+made c =
+    let g = c.args.g.now in
+    c.in_ok-transpose.ensures
+    ∙ ap transposed
+    (c.from_cells-turned.ensures
+    ∙ kept_is g.degree c.degree-degree.result g.lines g.columns c.in_ok-from_slice.field-0.items
+    c.in_ok-from_slice-2.field-0.items (λ line column. solution (cell_of g) column line) c.in_ok-columns.columns.items
+    c.degree-degree.ensures.value (c.in_ok-from_slice.ensures.items ∙ c.lines.ensures.value)
+    (c.in_ok-from_slice-2.ensures.items ∙ c.columns.ensures.value) c.in_ok-columns.ensures.columns)
+    ∙ transposed_back g.degree g.columns g.lines (solution (cell_of g))
 
 pub returns-clause-inverse : goal.returns-clause-inverse
 returns-clause-inverse c =
-    let g = c.args.g.now in
-    let same : c.in_ok-transpose.field-0 ≡ inverse_of g =
-    made g c.from_cells-turned.result c.in_ok-transpose.field-0 c.in_ok-transpose.ensures
-    (c.from_cells-turned.ensures
-    ∙ kept_is g.degree c.degree-degree.result g.lines g.columns c.in_ok-from_slice.field-0.items
-    c.in_ok-from_slice-2.field-0.items (λ line column. solution (cell_of g) column line) c.in_ok-columns.columns.items
-    c.degree-degree.ensures.value (c.in_ok-from_slice.ensures.items ∙ c.lines.ensures.value)
-    (c.in_ok-from_slice-2.ensures.items ∙ c.columns.ensures.value) c.in_ok-columns.ensures.columns) in
-    subst (IsInverse g) (sym same) (inverse_is g c.degree-degree.ensures.grid c.requires.triangular)
+    subst (IsInverse c.args.g.now) (sym (made c))
+    (inverse_is c.args.g.now c.degree-degree.ensures.grid c.requires.triangular)
 
 pub returns-clause-only : goal.returns-clause-only
-returns-clause-only c =
-    let g = c.args.g.now in
-    let same : c.in_ok-transpose.field-0 ≡ inverse_of g =
-    made g c.from_cells-turned.result c.in_ok-transpose.field-0 c.in_ok-transpose.ensures
-    (c.from_cells-turned.ensures
-    ∙ kept_is g.degree c.degree-degree.result g.lines g.columns c.in_ok-from_slice.field-0.items
-    c.in_ok-from_slice-2.field-0.items (λ line column. solution (cell_of g) column line) c.in_ok-columns.columns.items
-    c.degree-degree.ensures.value (c.in_ok-from_slice.ensures.items ∙ c.lines.ensures.value)
-    (c.in_ok-from_slice-2.ensures.items ∙ c.columns.ensures.value) c.in_ok-columns.ensures.columns) in
-    λ h is. same ∙ sym (only_inverse g c.degree-degree.ensures.grid c.requires.triangular h is)
+returns-clause-only c = λ h is.
+    made c ∙ sym (only_inverse c.args.g.now c.degree-degree.ensures.grid c.requires.triangular h is)
 
 pub returns-clause-within : goal.returns-clause-within
 returns-clause-within c =

@@ -5,6 +5,7 @@ use Rattle.sp_fock.specs.Rows.{polynomial_of}
 use Rattle.sp_fock_law.specs.Grid.{cell_of}
 use Rattle.sp_lists.proofs.Places.{all_at}
 use Rattle.sp_matrix.proofs.Shown.{map_more}
+use Rattle.sp_matrix.proofs.Sparse.{pushed}
 use Rattle.sp_matrix.proofs.moved.moved_line.Goals as goal
 
 pub loop-place-preserved : goal.loop-place-preserved
@@ -18,10 +19,12 @@ loop-place-preserved c =
     (all_at (λ t. t.1 < length grid.columns) c.args.columns.now place column c.requires.columns
     c.loop-place-test.true) in
     let within : column.1 < length whole = omega (arith, c.in_ok-whole.ensures.width, c.in_ok-whole.whole.ok.0) in
+    let next = pushed place c.loop-place.cells.items c.loop-place.invariant.sparse c.index-cell.result.now.now
+    c.push_copy.new.cells.items c.in_ok-push_copy.ensures in
     record {
-      sparse = c.in_ok-push_copy.ensures.sparse;
+      sparse = next.sparse;
       row =
-          c.in_ok-push_copy.ensures.value
+          next.row
           ∙ ap₂ (λ ps q. ps ++ q ∷ []) c.loop-place.invariant.row
           (ap (λ (b : Bor Laurent). b.now) c.index-cell.ensures
           ∙ ap (λ t. (get_or whole t.1 c.index-cell.result.now).now) (sym c.index-columns-place.is)

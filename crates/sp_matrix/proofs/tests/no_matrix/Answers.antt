@@ -2,7 +2,6 @@ use Rattle.std.proofs.Common.{◌≡◌, ℕ, List, [], ◌∷◌, refl, sym, �
 use Rattle.sp_defs.specs.Partition.{partitions, partitions_within, regulars}
 use Rattle.sp_defs.specs.Laurent.{Laurent}
 use Rattle.sp_fock.specs.Cells.{rows_of}
-use Rattle.sp_fock_law.specs.Grid.{GridValue}
 use Rattle.sp_module_defs.proofs.Places.{gridded}
 use Rattle.sp_matrix.specs.Agreements.{HasAll}
 use Rattle.sp_matrix.proofs.tests.no_matrix.Goals as goal
