@@ -9,7 +9,7 @@ use Rattle.sp_defs.specs.Power.{FockVector, IsVector, entries, unit}
 use Rattle.sp_laurent.specs.Held.{IsHeld}
 use Rattle.sp_laurent.proofs.Held.{held_monomial}
 use Rattle.sp_fock_law.proofs.Single.{entries-unit}
-use Rattle.sp_lists.proofs.Elements.{all_append}
+use Rattle.sp_lists.proofs.Elements.{all_append, all_every}
 use Rattle.sp_lists.proofs.Places.{all_at, all_weaken}
 use Rattle.sp_shapes.proofs.Listing.{all_partitions, partitions_ascend, IsPartition-nil}
 use Rattle.sp_shapes.proofs.Order.{ascends_at}
@@ -59,7 +59,7 @@ unfolding entries_over
 entries_over-push n ranks ps rank p h = entries_over-append n ranks (rank ∷ []) ps (p ∷ []) h
 
 -- What holds of each rank's partition and of each polynomial holds of the entries.
-pub all_over : (P : List ℕ × Laurent → Type 0) (n : ℕ) (R : ℕ → Type 0) (Q : Laurent → Type 0)
+all_over : (P : List ℕ × Laurent → Type 0) (n : ℕ) (R : ℕ → Type 0) (Q : Laurent → Type 0)
     → ((rank : ℕ) (p : Laurent) → R rank → Q p → P (partition_at n rank, p)) → (ranks : List ℕ) (ps : List Laurent) →
     AllByRecursion R ranks → AllByRecursion Q ps → AllByRecursion P (entries_over n ranks ps)
 unfolding entries_over
@@ -69,7 +69,7 @@ all_over P n R Q f (rank ∷ ranks) (p ∷ ps) (h, hs) (k, ks) = (f rank p h k, 
 
 -- ---- a vector
 
--- Ranks that climb are fewer than the places that there are.
+-- Ranks that climb are no more than the places that there are.
 climb_few : (ranks : List ℕ) (a n : ℕ) → Climbs ranks → AllByRecursion (λ rank. a ≤ rank) ranks →
     AllByRecursion (λ rank. rank < n) ranks → a ≤ n → a + length ranks ≤ n
 climb_few [] a n up least within le = omega arith
@@ -84,15 +84,11 @@ climb_few (rank ∷ ranks) a n (up, ups) (least, leasts) (within, withins) le =
 pub few_ranks : (n : ℕ) (ranks : List ℕ) (ps : List Laurent) → IsOverRanks n ranks ps →
     length ranks ≤ length (partitions n)
 few_ranks n ranks ps h =
-    omega (arith, climb_few ranks 0 (length (partitions n)) h.climbs (all_from_zero ranks) h.there (omega arith))
-  where
-    all_from_zero : (xs : List ℕ) → AllByRecursion (λ x. 0 ≤ x) xs
-    all_from_zero [] = tt
-    all_from_zero (x ∷ xs) = (omega arith, all_from_zero xs)
-
-pub few_entries : (n : ℕ) (ranks : List ℕ) (ps : List Laurent) → IsOverRanks n ranks ps →
-    length (entries_over n ranks ps) ≤ length (partitions n)
-few_entries n ranks ps h = omega (arith, length-entries_over n ranks ps h.count, few_ranks n ranks ps h)
+    omega (
+      arith,
+      climb_few ranks 0 (length (partitions n)) h.climbs
+          (all_every (λ rank. 0 ≤ rank) ranks (λ rank. omega arith)) h.there (omega arith),
+    )
 
 over_ascends : (n : ℕ) (ranks : List ℕ) (ps : List Laurent) → Climbs ranks →
     AllByRecursion (λ rank. rank < length (partitions n)) ranks → Ascending (map (λ t. t.0) (entries_over n ranks ps))

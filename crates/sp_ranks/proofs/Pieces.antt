@@ -25,7 +25,7 @@ start_before : (start : ℕ) (ends : List ℕ) (last : ℕ) → AreEnds start en
 start_before start [] last h = omega arith
 start_before start (end ∷ ends) last (h, hs) = omega (arith, start_before end ends last hs)
 
-pub lies_within : (start : ℕ) (ends : List ℕ) (last k : ℕ) → AreEnds start ends last → k < length ends →
+lies_within : (start : ℕ) (ends : List ℕ) (last k : ℕ) → AreEnds start ends last → k < length ends →
     LiesWithin start last (begin_of start ends k) (get_or ends k 0)
 lies_within start [] last k h lt = absurd (omega arith)
 lies_within start (end ∷ ends) last zero (h, hs) lt =
@@ -42,7 +42,7 @@ unfolding pieces
 length-pieces start [] terms = refl
 length-pieces start (end ∷ ends) terms = ap suc (length-pieces end ends (drop (end - start) terms))
 
-pub pieces-at : (start : ℕ) (ends : List ℕ) (last : ℕ) (terms : List Term) (k : ℕ) → AreEnds start ends last →
+pieces-at : (start : ℕ) (ends : List ℕ) (last : ℕ) (terms : List Term) (k : ℕ) → AreEnds start ends last →
     k < length ends →
     get_or (pieces start ends terms) k [] ≡
     take (get_or ends k 0 - begin_of start ends k) (drop (begin_of start ends k - start) terms)
@@ -88,7 +88,8 @@ module _ (ends : List ℕ) (terms : List Term) (ps : List Laurent) (k begin end 
       (lies_within 0 ends (length terms) k h.ascending there))
 
   -- They are the piece of the place.
-  pub place_read : begin ≡ begin_of 0 ends k → end ≡ get_or ends k end → take (end - begin) (drop begin terms) ≡ get_or ps k []
+  pub place_read : begin ≡ begin_of 0 ends k → end ≡ get_or ends k end →
+      take (end - begin) (drop begin terms) ≡ get_or ps k []
   place_read from to =
       ap₂ (λ b e. take (e - b) (drop b terms)) from (end_is to)
       ∙ sym (ap (λ l. get_or l k []) (sym is)
@@ -107,12 +108,12 @@ module _ (ends : List ℕ) (terms : List Term) (ps : List Laurent) (k begin end 
 
 -- ---- one piece more
 
-pub ends_more : (start : ℕ) (ends : List ℕ) (last next : ℕ) → AreEnds start ends last → last ≤ next →
+ends_more : (start : ℕ) (ends : List ℕ) (last next : ℕ) → AreEnds start ends last → last ≤ next →
     AreEnds start (ends ++ (next ∷ [])) next
 ends_more start [] last next h le = (omega arith, refl)
 ends_more start (end ∷ ends) last next (h, hs) le = (h, ends_more end ends last next hs le)
 
-pub pieces_more : (start : ℕ) (ends : List ℕ) (last next : ℕ) (terms more : List Term) → AreEnds start ends last →
+pieces_more : (start : ℕ) (ends : List ℕ) (last next : ℕ) (terms more : List Term) → AreEnds start ends last →
     start + length terms ≡ last → last + length more ≡ next →
     pieces start (ends ++ (next ∷ [])) (terms ++ more) ≡ pieces start ends terms ++ (more ∷ [])
 unfolding pieces

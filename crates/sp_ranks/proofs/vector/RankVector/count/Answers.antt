@@ -5,16 +5,18 @@ use Rattle.sp_ranks.proofs.vector.RankVector.count.Goals as goal
 
 pub returns-clause-value : goal.returns-clause-value
 returns-clause-value c =
+    let v = c.self.inside in
     omega (
       arith,
-      ap (λ v. length v.entries) c.self.view_is,
-      length-entries_over c.self.inside.degree c.self.inside.ranks.items c.self.inside.polynomials c.self.invariant.count,
+      ap (λ w. length w.entries) c.self.view_is,
+      length-entries_over v.degree v.ranks.items v.polynomials c.self.invariant.count,
     )
 
 pub returns-clause-few : goal.returns-clause-few
 returns-clause-few c =
+    let v = c.self.inside in
     omega (
       arith,
-      few_ranks c.self.inside.degree c.self.inside.ranks.items c.self.inside.polynomials c.self.invariant,
-      up_to_30 c.self.inside.degree c.self.invariant.small,
+      few_ranks v.degree v.ranks.items v.polynomials c.self.invariant,
+      up_to_30 v.degree c.self.invariant.small,
     )
