@@ -1,6 +1,6 @@
 -- Where the e-regular partitions stand, found one by one.
 use Rattle.std.proofs.Common.{◌≡◌, ℕ, ◌+◌, ◌<◌, true, false, cond, List, [], ◌∷◌, ◌++◌, filter, take, length, get_or}
-use Rattle.std.proofs.Common.{refl, sym, ◌∙◌, ap, ap₂, subst}
+use Rattle.std.proofs.Common.{refl, sym, ◌∙◌, ap, ap₂, subst, Option, IfSome}
 use Rattle.std.proofs.lemmas.List.{take_more, map-append, append-nil, get_or-map, length-map}
 use Rattle.std.specs.List.{AllByRecursion}
 use Rattle.sp_defs.specs.Partition.{is_regular, partitions, regulars}
@@ -70,15 +70,16 @@ pub places_count : (key : Key) (places : List ℕ) → ArePlaces key places → 
 places_count key places h = sym (length-map places (λ i. get_or (partitions key.degree) i [])) ∙ ap length h.at
 
 -- the parts of a context, from the lists that were made
-pub context_of : (key : Key) (all listed found : List (List ℕ)) (places : List ℕ) → IsKey key →
-    all ≡ partitions key.degree → listed ≡ all → found ≡ filter (is_regular key.e) listed → AreAt listed found places →
-    IsContext key all found places
-context_of key all listed found places held is same regular stand = record {
+pub context_of : (key : Key) (all listed found : List (List ℕ)) (places : List ℕ) (moves : Option ℕ) → IsKey key →
+    IfSome moves (λ n. n ≡ key.degree) → all ≡ partitions key.degree → listed ≡ all →
+    found ≡ filter (is_regular key.e) listed → AreAt listed found places → IsContext key all found places moves
+context_of key all listed found places moves held moved is same regular stand = record {
   held = held;
   listed = is;
   regulars = regulars;
   stand = subst (λ xs. AreAt (partitions key.degree) xs places) regulars
       (subst (λ ys. AreAt ys found places) (same ∙ is) stand);
+  moved = moved;
 }
   where
     regulars : found ≡ labels key

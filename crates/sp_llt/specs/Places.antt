@@ -1,5 +1,5 @@
 -- Where the e-regular partitions of a degree stand in the list of all.
-use Rattle.std.specs.Prelude.{◌≡◌, ℕ, ◌<◌, List, [], map, length, get_or}
+use Rattle.std.specs.Prelude.{◌≡◌, ℕ, ◌<◌, List, [], Option, IfSome, map, length, get_or}
 use Rattle.std.specs.List.{AllByRecursion}
 use Rattle.sp_defs.specs.Partition.{partitions}
 use Rattle.sp_core.specs.declared.piece.Key.{Key}
@@ -18,9 +18,10 @@ pub record AreAt (all found : List (List ℕ)) (places : List ℕ) : Type 0 wher
 abbrev pub ArePlaces : Key → List ℕ → Type 0
 ArePlaces key places = AreAt (partitions key.degree) (labels key) places
 
--- What is true of the parts of a context.
-pub record IsContext (key : Key) (all found : List (List ℕ)) (places : List ℕ) : Type 0 where
+-- What is true of the parts of a context, of which the last is the degree of a table of moves.
+pub record IsContext (key : Key) (all found : List (List ℕ)) (places : List ℕ) (moves : Option ℕ) : Type 0 where
   pub held : IsKey key
   pub listed : all ≡ partitions key.degree
   pub regulars : found ≡ labels key
   pub stand : ArePlaces key places
+  pub moved : IfSome moves (λ n. n ≡ key.degree)

@@ -1,5 +1,5 @@
 // What all rows of one table share.
-ghost use Rattle.std.specs.Prelude.{◌≡◌, ◌≤◌, ◌<◌, ◌^◌, ℕ, [], IfOk, filter, length, map, get_or};
+ghost use Rattle.std.specs.Prelude.{◌≡◌, ◌≤◌, ◌<◌, ◌^◌, ℕ, [], IfOk, IfSome, filter, length, map, get_or};
 ghost use Rattle.std.specs.List.{AllByRecursion};
 ghost use Rattle.sp_defs.specs.Partition.{partitions, is_regular};
 ghost use Rattle.sp_llt.specs.Place.{key_of, labels, IsKey};
@@ -7,6 +7,7 @@ ghost use Rattle.sp_llt.specs.Places.{AreAt, ArePlaces};
 
 use sp_core::Key;
 use sp_partition::{DEGREE_LIMIT, Partition, all_of};
+use sp_ranks::Moves;
 use std::alloc::{AllocError, Global};
 use std::marker::Model;
 
@@ -18,6 +19,8 @@ pub struct Ctx {
     regulars: Vec<Partition>,
     // Where the e-regular ones stand among all.
     places: Vec<usize>,
+    // By which ladder vectors are made over ranks, where it is there.
+    moves: Option<Moves>,
 }
 
 impl Model for Ctx {
@@ -28,7 +31,7 @@ impl Model for Ctx {
 
     ghost view = { λ c. c.key };
 
-    ghost invariant = { λ c. IsContext c.key c.all.items c.regulars.items c.places.items };
+    ghost invariant = { λ c. IsContext c.key c.all.items c.regulars.items c.places.items c.moves };
 }
 
 impl Ctx {
@@ -41,13 +44,37 @@ impl Ctx {
         requires most { limit < 2 ^ 127 }
         ensures { IfOk result (λ c. c ≡ key_of e degree limit) }
     {
-        let all = all_of(alloc, degree)?;
-        let (regulars, places) = regulars_among(alloc, &all, e)?;
+        Ctx::with_moves(alloc, Key { e, degree, limit }, None)
+    }
+
+    /// The same context, for whoever makes all its rows: it is opened with a table by which their ladder vectors are
+    /// made sooner. The table costs more than a single row of a small block.
+    pub fn open_for_all(alloc: Global, e: u8, degree: u8, limit: u128) -> Result<Ctx, AllocError>
+        requires e_least { 2 ≤ e }
+        requires e_most { e ≤ 64 }
+        requires degree { degree ≤ DEGREE_LIMIT }
+        requires least { 1 ≤ limit }
+        requires most { limit < 2 ^ 127 }
+        ensures { IfOk result (λ c. c ≡ key_of e degree limit) }
+    {
+        let moves = Moves::open(alloc, degree)?;
+        Ctx::with_moves(alloc, Key { e, degree, limit }, Some(moves))
+    }
+
+    // The context with this table, or with none.
+    fn with_moves(alloc: Global, key: Key, moves: Option<Moves>) -> Result<Ctx, AllocError>
+        requires key { IsKey key }
+        requires moves { IfSome moves (λ n. n ≡ key.degree) }
+        ensures { IfOk result (λ c. c ≡ key) }
+    {
+        let all = all_of(alloc, key.degree)?;
+        let (regulars, places) = regulars_among(alloc, &all, key.e)?;
         Ok(Ctx {
-            key: Key { e, degree, limit },
+            key,
             all,
             regulars,
             places,
+            moves,
         })
     }
 
@@ -75,6 +102,13 @@ impl Ctx {
         ensures few { length result.now ≤ 2 ^ 16 }
     {
         &self.all
+    }
+
+    /// The table by which ladder vectors are made over ranks, where it is there. It takes no memory.
+    pub(crate) fn moves(&self) -> Option<&Moves>
+        ensures { IfSome result (λ moves. moves.now ≡ self.now.degree) }
+    {
+        self.moves.as_ref()
     }
 
     /// For each rank the place of its partition among all. It takes no memory.
