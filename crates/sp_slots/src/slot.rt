@@ -45,8 +45,8 @@ impl Slot {
         self.coefficient.terms().is_empty()
     }
 
-    /// Adds `a` times `b`, where `size_of_a` is the size of `a`. The total grows by the product of their sizes: past the
-    /// limit it is too large.
+    /// Adds `a` times `b`. `size_of_a` is the size of `a`. The total grows by the product of their sizes: past the limit
+    /// it is too large. The total covers the size of the polynomial, so no other check is needed.
     pub(crate) fn add_product(
         &mut self,
         alloc: Global,
@@ -61,8 +61,7 @@ impl Slot {
         requires within { ProductWithin power_limit a.now b.now }
         ensures ok { OnOk result (self.new ≡ grown a.now self.old b.now) }
         ensures fits { OnOk result (self.old.total + size a.now * size b.now ≤ limit) }
-        ensures too_large { IsErrOf result FockFault.TooLarge →
-            limit < self.old.total + size a.now * size b.now }
+        ensures too_large { IsErrOf result FockFault.TooLarge → limit < self.old.total + size a.now * size b.now }
     {
         let Some(total) = sum_within(self.total, size_of_a, b.size(), limit) else {
             return Err(FockFault::TooLarge);

@@ -22,7 +22,8 @@ invariant_of-result c =
       c.requires.fits,
       size-cons k (pos 1) [],
     ) in
-    subst IsHeld (sym sum) (held_sum c.args.self (power k) c.args.other.now (subst IsHeld c.self.view_is c.self.invariant) fits
+    subst IsHeld (sym sum)
+    (held_sum c.args.self (power k) c.args.other.now (subst IsHeld c.self.view_is c.self.invariant) fits
     c.requires.within)
 
 pub returns-clause-powers : goal.returns-clause-powers
