@@ -6,7 +6,7 @@ ghost use Rattle.sp_inverse.specs.Within.{AreCellsWithin};
 
 use sp_fock::FockFault;
 use sp_laurent::{Laurent, without_product};
-use std::alloc::Global;
+use std::alloc::{AllocError, Global};
 
 // The sum of the products of the cells with the factors at their places. Where there is no factor it is 0.
 pub(crate) fn sum_of_products(
@@ -25,7 +25,7 @@ pub(crate) fn sum_of_products(
     if !products_fit(cells, factors, limit) {
         return Err(FockFault::TooLarge);
     }
-    sum_within(alloc, cells, factors, limit)
+    Ok(sum_within(alloc, cells, factors)?)
 }
 
 // Whether the sum of the products of the sizes is within the limit.
@@ -52,24 +52,20 @@ fn size_at(factors: &[Laurent], place: usize) -> u128
     }
 }
 
-// The sum, where the sizes are within the limit.
+// The sum, where the sizes fit.
 fn sum_within(
     alloc: Global,
     cells: &[(usize, Laurent)],
     factors: &[Laurent],
-    limit: u128,
-) -> Result<Laurent, FockFault>
-    requires least { 1 ≤ limit }
-    requires most { limit < 2 ^ 127 }
+) -> Result<Laurent, AllocError>
     requires within { AreCellsWithin cells.now factors.now }
-    requires fits { cells_size cells.now factors.now ≤ limit }
-    ensures sum { IfOk result (λ sum. sum ≡ cells_sum cells.now factors.now) }
-    ensures fits { ¬ IsErrOf result FockFault.TooLarge }
+    requires fits { cells_size cells.now factors.now < 2 ^ 127 }
+    ensures { IfOk result (λ sum. sum ≡ cells_sum cells.now factors.now) }
 {
     let mut sum = Laurent::zero(alloc);
     for cell in cells {
         if cell.0 < factors.len() {
-            sum = sum.plus_product(&cell.1, &factors[cell.0], limit)?;
+            sum = sum.plus_product_within(&cell.1, &factors[cell.0])?;
         }
     }
     Ok(sum)

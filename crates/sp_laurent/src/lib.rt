@@ -254,6 +254,19 @@ impl Laurent {
         if !is_within(limit, self.size(), a.size(), b.size()) {
             return Err(LaurentFault::TooLarge);
         }
+        Ok(self.plus_product_within(a, b)?)
+    }
+
+    /// This polynomial and `a * b`, where the caller has seen that their sizes fit: nothing is checked. The sum is made
+    /// in this polynomial's own memory, which grows only where the sum has more terms.
+    pub fn plus_product_within(self, a: &Laurent, b: &Laurent) -> Result<Laurent, AllocError>
+        requires fits { size self + size a.now * size b.now < 2 ^ 127 }
+        requires within { ProductWithin power_limit a.now b.now }
+        ensures ok { IfOk result (λ p. p ≡ plus self (times a.now b.now)) }
+        ensures powers { (d : ℕ) → PowersWithin d self → ProductWithin d a.now b.now → IfOk result (λ p.
+            PowersWithin d p) }
+        ensures held { IfOk result (λ p. IsHeld p) }
+    {
         let mut terms = self.terms;
         add_product(&mut terms, &a.terms, &b.terms)?;
         Ok(Laurent { terms })
@@ -279,6 +292,19 @@ impl Laurent {
         if !is_within(limit, self.size(), 1, other.size()) {
             return Err(LaurentFault::TooLarge);
         }
+        Ok(self.plus_shifted_within(other, power)?)
+    }
+
+    /// This polynomial and `other * v^power`, where the caller has seen that their sizes fit: nothing is checked. The
+    /// sum is made in this polynomial's own memory, which grows only where the sum has more terms.
+    pub fn plus_shifted_within(self, other: &Laurent, power: i32) -> Result<Laurent, AllocError>
+        requires fits { size self + size other.now < 2 ^ 127 }
+        requires within { ProductWithin power_limit (monomial power (pos 1)) other.now }
+        ensures ok { IfOk result (λ p. p ≡ plus self (times (monomial power (pos 1)) other.now)) }
+        ensures powers { (d : ℕ) → PowersWithin d self → ProductWithin d (monomial power (pos 1)) other.now
+            → IfOk result (λ p. PowersWithin d p) }
+        ensures held { IfOk result (λ p. IsHeld p) }
+    {
         let mut terms = self.terms;
         add_multiple(&mut terms, (power, 1), &other.terms)?;
         Ok(Laurent { terms })

@@ -230,10 +230,10 @@ sum_first pairs run t new lt at is =
     (is ∙ sym (nought_plus (share_of pairs t) (IsLaurent-times (power t.2) (polynomial_at pairs t.1))))
 
 -- The limit has room for one move more.
-pub share_fits : (pairs : Entries) (run : List Arrival) (i : ℕ) (t : Arrival) (old : Laurent) (limit : ℕ) →
-    i < length run → t ≡ get_or run i t → SoFar pairs run i old → sum_by (size_of pairs) run ≤ limit →
-    size old + size_of pairs t ≤ limit
-share_fits pairs run i t old limit lt at so_far h =
+pub share_fits : (pairs : Entries) (run : List Arrival) (i : ℕ) (t : Arrival) (old : Laurent) (bound : ℕ) →
+    i < length run → t ≡ get_or run i t → SoFar pairs run i old → sum_by (size_of pairs) run < bound →
+    size old + size_of pairs t < bound
+share_fits pairs run i t old bound lt at so_far h =
     omega (arith, sum_by_more_le (size_of pairs) run i t lt, ap (size_of pairs) at, so_far.small, h)
 
 -- All moves are summed.

@@ -39,7 +39,7 @@ pub(crate) fn sums(
         if !run_fits(pairs, run, limit) {
             return Err(PowerFault::TooLarge);
         }
-        let sum = run_sum(alloc, pairs, run, limit)?;
+        let sum = run_sum(alloc, pairs, run)?;
         push_nonzero(&mut sums, first.partition, sum)?;
         rest = later;
     }
@@ -94,21 +94,17 @@ fn run_sum(
     alloc: Global,
     pairs: &[(Partition, Laurent)],
     run: &[Arrival],
-    limit: u128,
-) -> Result<Laurent, PowerFault>
-    requires least { 1 ≤ limit }
-    requires most { limit < 2 ^ 127 }
+) -> Result<Laurent, AllocError>
     requires brought { AllByRecursion (IsBrought pairs.now) run.now }
-    requires fits { sum_by (size_of pairs.now) run.now ≤ limit }
-    ensures sum { IfOk result (λ sum. sum ≡ sum_over run.now (share_of pairs.now)) }
-    ensures fits { ¬ IsErrOf result PowerFault.TooLarge }
+    requires fits { sum_by (size_of pairs.now) run.now < 2 ^ 127 }
+    ensures { IfOk result (λ sum. sum ≡ sum_over run.now (share_of pairs.now)) }
 {
     let [first, others @ ..] = run else {
         return Ok(Laurent::zero(alloc));
     };
     let mut sum = share(alloc, pairs, first)?;
     for arrival in others {
-        sum = plus_share(sum, pairs, arrival, limit)?;
+        sum = plus_share(sum, pairs, arrival)?;
     }
     Ok(sum)
 }
@@ -130,14 +126,10 @@ fn plus_share(
     sum: Laurent,
     pairs: &[(Partition, Laurent)],
     arrival: &Arrival,
-    limit: u128,
-) -> Result<Laurent, PowerFault>
-    requires least { 1 ≤ limit }
-    requires most { limit < 2 ^ 127 }
+) -> Result<Laurent, AllocError>
     requires brought { IsBrought pairs.now arrival.now }
-    requires fits { size sum + size_of pairs.now arrival.now ≤ limit }
-    ensures sum { IfOk result (λ more. more ≡ plus sum (share_of pairs.now arrival.now)) }
-    ensures fits { ¬ IsErrOf result PowerFault.TooLarge }
+    requires fits { size sum + size_of pairs.now arrival.now < 2 ^ 127 }
+    ensures { IfOk result (λ more. more ≡ plus sum (share_of pairs.now arrival.now)) }
 {
-    Ok(sum.plus_shifted(&pairs[arrival.source].1, arrival.exponent, limit)?)
+    sum.plus_shifted_within(&pairs[arrival.source].1, arrival.exponent)
 }

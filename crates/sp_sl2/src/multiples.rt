@@ -69,7 +69,7 @@ pub(crate) fn balanced_multiple(
     if without_product(limit, count as u128, p.size()).is_none() {
         return Err(PowerFault::TooLarge);
     }
-    let multiple = natural_multiple(alloc, count, p, limit)?;
+    let multiple = natural_multiple(alloc, count, p)?;
     if k < 0 {
         Ok(multiple.negate(alloc)?)
     } else {
@@ -78,18 +78,15 @@ pub(crate) fn balanced_multiple(
 }
 
 // A polynomial times the balanced integer of a natural number.
-fn natural_multiple(alloc: Global, k: u32, p: &Laurent, limit: u128) -> Result<Laurent, PowerFault>
+fn natural_multiple(alloc: Global, k: u32, p: &Laurent) -> Result<Laurent, AllocError>
     requires near { k ≤ 33 }
     requires powers { PowersWithin half_power_limit p.now }
-    requires least { 1 ≤ limit }
-    requires most { limit < 2 ^ 127 }
-    requires fits { k * size p.now ≤ limit }
-    ensures ok { IfOk result (λ q. q ≡ times (balanced_natural k) p.now) }
-    ensures fits { ¬ IsErrOf result PowerFault.TooLarge }
+    requires fits { k * size p.now < 2 ^ 127 }
+    ensures { IfOk result (λ q. q ≡ times (balanced_natural k) p.now) }
 {
     let mut multiple = Laurent::zero(alloc);
     for j in 0..k {
-        multiple = multiple.plus_shifted(p, balanced_power(k, j), limit)?;
+        multiple = multiple.plus_shifted_within(p, balanced_power(k, j))?;
     }
     Ok(multiple)
 }

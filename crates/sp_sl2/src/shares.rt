@@ -19,7 +19,7 @@ use sp_laurent::Laurent;
 use sp_nodes::{Corner, Mark, marks};
 use sp_partition::Partition;
 use sp_power::PowerFault;
-use std::alloc::Global;
+use std::alloc::{AllocError, Global};
 
 /// The restriction of a vector at each of these partitions, where it isn't 0.
 pub(crate) fn sums(
@@ -124,7 +124,7 @@ fn sum_through(
         difference = passed(difference, mark.corner);
         let share = share(v, at, *mark);
         left = rest_of(left, share)?;
-        sum = plus_share(sum, share, difference, limit)?;
+        sum = plus_share(sum, share, difference)?;
     }
     Ok(sum)
 }
@@ -169,23 +169,15 @@ fn rest_of(left: u128, share: Option<&Laurent>) -> Result<u128, PowerFault>
 }
 
 // A sum, and a polynomial times a power of v.
-fn plus_share(
-    sum: Laurent,
-    share: Option<&Laurent>,
-    power: i32,
-    limit: u128,
-) -> Result<Laurent, PowerFault>
-    requires least { 1 ≤ limit }
-    requires most { limit < 2 ^ 127 }
+fn plus_share(sum: Laurent, share: Option<&Laurent>, power: i32) -> Result<Laurent, AllocError>
     requires laurent { IsLaurent sum }
     requires near { unsigned_abs power ≤ 2000 }
     requires powers { PowersWithin half_power_limit (shown share) }
-    requires fits { size sum + size (shown share) ≤ limit }
-    ensures sum { IfOk result (λ more. more ≡ plus sum (times (power_of power) (shown share.entry))) }
-    ensures fits { ¬ IsErrOf result PowerFault.TooLarge }
+    requires fits { size sum + size (shown share) < 2 ^ 127 }
+    ensures { IfOk result (λ more. more ≡ plus sum (times (power_of power) (shown share.entry))) }
 {
     match share {
-        Some(polynomial) => Ok(sum.plus_shifted(polynomial, power, limit)?),
+        Some(polynomial) => sum.plus_shifted_within(polynomial, power),
         None => Ok(sum),
     }
 }

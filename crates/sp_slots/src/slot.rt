@@ -8,6 +8,7 @@ ghost use Rattle.sp_slots.specs.Slot.{nothing, sized, grown, IsSlot};
 use sp_fock::FockFault;
 use sp_laurent::Laurent;
 use std::alloc::{AllocError, Global};
+use std::mem;
 
 /// A polynomial, and a total that is at least its size.
 #[derive(Drop)]
@@ -44,30 +45,31 @@ impl Slot {
         self.coefficient.terms().is_empty()
     }
 
-    /// With `a` times `b` added. The total grows by the product of their sizes: past the limit it is too large.
-    pub(crate) fn plus_product(
-        self,
+    /// Adds `a` times `b`. `size_of_a` is the size of `a`. The total grows by the product of their sizes: past the limit
+    /// it is too large. The total covers the size of the polynomial, so no other check is needed.
+    pub(crate) fn add_product(
+        &mut self,
+        alloc: Global,
         a: &Laurent,
+        size_of_a: u128,
         b: &Laurent,
         limit: u128,
-    ) -> Result<Slot, FockFault>
-        requires slot { IsSlot self }
-        requires least { 1 ≤ limit }
+    ) -> Result<(), FockFault>
+        requires slot { IsSlot self.old }
+        requires size { size_of_a ≡ size a.now }
         requires most { limit < 2 ^ 127 }
         requires within { ProductWithin power_limit a.now b.now }
-        ensures ok { IfOk result (λ slot. slot ≡ grown a.now self b.now) }
-        ensures fits { OnOk result (self.total + size a.now * size b.now ≤ limit) }
-        ensures too_large { IsErrOf result FockFault.TooLarge →
-            limit < self.total + size a.now * size b.now }
+        ensures ok { OnOk result (self.new ≡ grown a.now self.old b.now) }
+        ensures fits { OnOk result (self.old.total + size a.now * size b.now ≤ limit) }
+        ensures too_large { IsErrOf result FockFault.TooLarge → limit < self.old.total + size a.now * size b.now }
     {
-        let Slot { coefficient, total } = self;
-        let Some(total) = sum_within(total, a.size(), b.size(), limit) else {
+        let Some(total) = sum_within(self.total, size_of_a, b.size(), limit) else {
             return Err(FockFault::TooLarge);
         };
-        Ok(Slot {
-            coefficient: coefficient.plus_product(a, b, limit)?,
-            total,
-        })
+        let coefficient = mem::replace(&mut self.coefficient, Laurent::zero(alloc));
+        self.coefficient = coefficient.plus_product_within(a, b)?;
+        self.total = total;
+        Ok(())
     }
 }
 

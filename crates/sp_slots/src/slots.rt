@@ -14,7 +14,6 @@ use sp_laurent::Laurent;
 use sp_partition::Partition;
 use std::alloc::{AllocError, Global};
 use std::marker::Model;
-use std::mem;
 
 /// A vector with a total for each partition of its degree, which is at least the size of the polynomial there.
 #[derive(Drop)]
@@ -90,15 +89,12 @@ impl Slots {
         let Slots { degree, mut slots } = self;
         let _held = a.terms();
         let negated = a.negate(alloc)?;
+        let size = negated.size();
         let pairs = w.vector().pairs();
         let indices = w.indices();
         for k in 0..pairs.len() {
             let index = usize::from(indices[k]);
-            let slot = mem::replace(&mut slots[index], Slot::empty(alloc));
-            match slot.plus_product(&negated, &pairs[k].1, limit) {
-                Ok(grown) => slots[index] = grown,
-                Err(fault) => return Err(fault),
-            }
+            slots[index].add_product(alloc, &negated, size, &pairs[k].1, limit)?;
         }
         Ok(Slots { degree, slots })
     }

@@ -44,7 +44,7 @@ loop-rest-preserved c =
     c.loop-rest.invariant
     c.first.inside.partition c.split_at.result.0.now c.split_at.result.1.now c.in_ok-sum.sum
     c.push_nonzero.new.sums.items s
-    (c.run_fits.ensures.0 c.if-not-run_fits.false) c.in_ok-sum.ensures.sum c.push_nonzero.ensures.held
+    (c.run_fits.ensures.0 c.if-not-run_fits.false) c.in_ok-sum.ensures c.push_nonzero.ensures.held
     c.in_ok-push_nonzero.ensures.sums
 
 pub returns-clause-sums : goal.returns-clause-sums

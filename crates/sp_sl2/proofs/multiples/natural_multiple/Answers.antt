@@ -11,8 +11,8 @@ loop-j-init c = record {
   small = omega (arith, ap size c.zero-multiple.ensures);
 }
 
-pub plus_shifted-requires-clause-within : goal.plus_shifted-requires-clause-within
-plus_shifted-requires-clause-within c =
+pub plus_shifted_within-requires-clause-within : goal.plus_shifted_within-requires-clause-within
+plus_shifted_within-requires-clause-within c =
     shift_within c.balanced_power.result _ c.args.p.now
     (read_exponent c.balanced_power.result (omega (arith, c.balanced_power.ensures.near)))
     (omega (arith, c.balanced_power.ensures.near)) c.requires.powers
@@ -26,8 +26,8 @@ loop-j-preserved c =
     c.balanced_power.ensures.value c.in_ok-multiple.ensures.ok in
     record { sum = s.sum_is; small = s.small_is }
 
-pub returns-clause-ok : goal.returns-clause-ok
-returns-clause-ok c =
+pub returns : goal.returns
+returns c =
     c.loop-j.invariant.sum
     ∙ ap (first_terms c.args.k c.args.p.now) (omega (arith, c.loop-j-test.false, c.loop-j.auto.j-end))
     ∙ all_terms c.args.k c.args.p.now

@@ -40,20 +40,20 @@ loop-mark-preserved c =
     let small : unsigned_abs c.passed-difference.result ≤ 2000 =
     omega (arith, start, c.passed-difference.ensures.near, c.loop-mark.invariant.near, c.requires.near) in
     record {
-      laurent = sum_laurent c.in_ok-sum.sum _ _ c.in_ok-sum.ensures.sum;
+      laurent = sum_laurent c.in_ok-sum.sum _ _ c.in_ok-sum.ensures;
       sums =
           sum_more (vector_of c.args.v.now.entries) c.args.at.now c.args.marks.now c.loop-mark.mark-index
           (record { corner = Addable; node = record { row = 0; column = 0 } })
           c.loop-mark-test.true c.loop-mark.sum c.in_ok-sum.sum _ _ _ _ c.loop-mark.invariant.sums
           (read_exponent c.passed-difference.result small
-          ∙ c.passed-difference.ensures.value _) c.share-share.ensures.value c.in_ok-sum.ensures.sum;
+          ∙ c.passed-difference.ensures.value _) c.share-share.ensures.value c.in_ok-sum.ensures;
       sizes =
           sizes_more (vector_of c.args.v.now.entries) c.args.at.now c.args.marks.now c.loop-mark.mark-index
           (record { corner = Addable; node = record { row = 0; column = 0 } })
           c.loop-mark-test.true c.loop-mark.left c.in_ok-left.left _ c.args.limit _ c.loop-mark.invariant.sizes
           c.in_ok-left.ensures.ok c.share-share.ensures.value;
       fits = size_more c.loop-mark.sum c.in_ok-sum.sum _ _ c.loop-mark.left c.in_ok-left.left c.args.limit
-          c.in_ok-sum.ensures.sum c.loop-mark.invariant.fits c.in_ok-left.ensures.ok;
+          c.in_ok-sum.ensures c.loop-mark.invariant.fits c.in_ok-left.ensures.ok;
       near = omega (
         arith,
         ap unsigned_abs (read_exponent c.passed-difference.result small),

@@ -1,7 +1,9 @@
-use Rattle.std.proofs.Common.{◌≡◌, ℕ, ◌+◌, ◌<◌, ◌≤◌, List, length, get_or, refl, sym, ◌∙◌, ap, ap₂, subst, arith, Err}
-use Rattle.std.proofs.lemmas.List.{get_or_default, set-set}
+use Rattle.std.proofs.Common.{◌≡◌, ℕ, ◌<◌, ◌≤◌, List, length, get_or, refl, sym, ◌∙◌, ap, ap₂, subst, arith}
+use Rattle.std.proofs.Common.{Err, Result}
+use Rattle.std.proofs.lemmas.List.{get_or_default}
 use Rattle.std.proofs.Math.Seq.{take-length}
 use Rattle.std.specs.List.{AllByRecursion}
+use Rattle.std.specs.Result.{IsErrAnd}
 use Rattle.sp_defs.specs.Partition.{IsPartitionOf}
 use Rattle.sp_defs.specs.Laurent.{Laurent, negate}
 use Rattle.sp_defs.specs.Power.{FockVector}
@@ -9,6 +11,7 @@ use Rattle.sp_defs.specs.Within.{ProductWithin}
 use Rattle.sp_lists.proofs.Places.{all_at}
 use Rattle.sp_laurent.specs.Held.{power_limit, IsHeld as IsHeldPolynomial}
 use Rattle.sp_fock.specs.Held.{IsHeld}
+use Rattle.sp_fock.specs.declared.fault.FockFault.{FockFault}
 use Rattle.sp_fock.specs.declared.fault.FockFault.TheVariants.{TooLarge}
 use Rattle.sp_fock_law.specs.Tally.{TallyValue, total_of, subtracted, subtraction_weight}
 use Rattle.sp_fock_law.proofs.Tally.{within_negate}
@@ -36,8 +39,8 @@ loop-k-init c =
     (totals_fit n c.args.limit slots c.self.invariant
     (subst (AreWithin c.args.limit) (sym c.self.view_is) c.requires.totals))
 
-pub plus_product-requires-clause-slot : goal.plus_product-requires-clause-slot
-plus_product-requires-clause-slot c =
+pub add_product-requires-clause-slot : goal.add_product-requires-clause-slot
+add_product-requires-clause-slot c =
     let t = c.index-pairs-k.result in
     let e : IsEntry c.self.inside.degree c.args.w.now c.loop-k.k c.from-index.result t = entry_at c.self.inside.degree
     c.args.w.now c.indices-indices.result.now c.pairs-pairs.result.now c.loop-k.k
@@ -45,7 +48,7 @@ plus_product-requires-clause-slot c =
     (ap (λ (s : TallyValue). s.vector.degree) c.self.view_is ∙ c.requires.one_degree)
     (c.pairs-pairs.ensures.value ∙ ap (λ (v : FockVector). v.entries) c.vector.ensures) c.loop-k-test.true
     c.index-pairs-k.is c.from-index.ensures in
-    subst IsSlot (sym (c.replace-slot.ensures.value ∙ c.index_mut.ensures.value))
+    subst IsSlot (sym c.index_mut.ensures.value)
     (all_at IsSlot c.loop-k.slots.items c.from-index.result c.index_mut.result.now c.loop-k.invariant.each
     (omega (arith, e.within, c.loop-k.invariant.count)))
 
@@ -60,21 +63,20 @@ within_entry a b w v pairs k d negated held h same one lt =
     (subst (AllByRecursion (λ t. ProductWithin power_limit a t.1))
     (sym (same ∙ ap (λ (u : FockVector). u.entries) one)) h) lt))
 
-pub plus_product-requires-clause-within : goal.plus_product-requires-clause-within
-plus_product-requires-clause-within c =
+pub add_product-requires-clause-within : goal.add_product-requires-clause-within
+add_product-requires-clause-within c =
     within_entry c.args.a.now c.in_ok-negated.negated c.args.w.now c.vector.result.now c.pairs-pairs.result.now
     c.loop-k.k c.index-pairs-k.result c.in_ok-negated.ensures c.terms-held.ensures.held c.requires.within
     c.pairs-pairs.ensures.value c.vector.ensures c.loop-k-test.true
 
--- the slot that was taken out, times what it is multiplied by
-made : (a b : Laurent) (slots : List Slot) (index : ℕ) (s old held : Slot) (pairs : List (List ℕ × Laurent)) (k : ℕ)
-    (t : List ℕ × Laurent) → s ≡ grown b old (get_or pairs k t).1 → b ≡ negate a → old ≡ held →
-    held ≡ get_or slots index held → index < length slots → t ≡ get_or pairs k t →
-    s ≡ grown (negate a) (get_or slots index nothing) t.1
-made a b slots index s old held pairs k t is negated taken at lt entry =
+-- the slot at a place, with its product added
+made : (a b : Laurent) (slots : List Slot) (index : ℕ) (s old : Slot) (pairs : List (List ℕ × Laurent)) (k : ℕ)
+    (t : List ℕ × Laurent) → s ≡ grown b old (get_or pairs k t).1 → b ≡ negate a → old ≡ get_or slots index old →
+    index < length slots → t ≡ get_or pairs k t → s ≡ grown (negate a) (get_or slots index nothing) t.1
+made a b slots index s old pairs k t is negated at lt entry =
     is
     ∙ ap (λ p. grown p old (get_or pairs k t).1) negated
-    ∙ ap₂ (λ u q. grown (negate a) u q) (taken ∙ at ∙ get_or_default slots index held nothing lt)
+    ∙ ap₂ (λ u q. grown (negate a) u q) (at ∙ get_or_default slots index old nothing lt)
     (ap (λ (u : List ℕ × Laurent). u.1) (sym entry))
 
 pub loop-k-preserved : goal.loop-k-preserved
@@ -89,18 +91,14 @@ loop-k-preserved c =
     (ap (λ (s : TallyValue). s.vector.degree) c.self.view_is ∙ c.requires.one_degree)
     (c.pairs-pairs.ensures.value ∙ ap (λ (v : FockVector). v.entries) c.vector.ensures) c.loop-k-test.true
     c.index-pairs-k.is c.from-index.ensures in
-    let is = made c.args.a.now c.in_ok-negated.negated slots index c.in-Ok.grown c.replace-slot.result
-    c.index_mut.result.now c.pairs-pairs.result.now c.loop-k.k t c.in-Ok.ensures.ok c.in_ok-negated.ensures
-    c.replace-slot.ensures.value c.index_mut.ensures.value (omega (arith, e.within, c.loop-k.invariant.count))
-    c.index-pairs-k.is in
-    subst
-    (λ xs. IsReached n c.args.limit b c.args.w.now.entries c.self.inside.slots.items xs (c.loop-k.k + 1))
-    (sym (set-set slots index c.replace-slot.new.dest c.in-Ok.grown))
-    (reached_more n c.args.limit b c.args.w.now.entries c.self.inside.slots.items c.self.invariant
+    let is = made c.args.a.now c.in_ok-negated.negated slots index c.add_product.new.self c.index_mut.result.now
+    c.pairs-pairs.result.now c.loop-k.k t c.in_ok-add_product.ensures.ok c.in_ok-negated.ensures
+    c.index_mut.ensures.value (omega (arith, e.within, c.loop-k.invariant.count)) c.index-pairs-k.is in
+    reached_more n c.args.limit b c.args.w.now.entries c.self.inside.slots.items c.self.invariant
     (ascending c.vector.result.now c.args.w.now c.vector.ensures c.pairs-pairs.ensures.held) slots c.loop-k.k index t
-    c.loop-k.invariant e.lt e.within e.is e.at c.in-Ok.grown is
-    (subst (λ m. m ≤ c.args.limit) (sym (ap (λ (s : Slot). s.total) c.in-Ok.ensures.ok))
-    c.in-Ok.ensures.fits))
+    c.loop-k.invariant e.lt e.within e.is e.at c.add_product.new.self is
+    (subst (λ m. m ≤ c.args.limit) (sym (ap (λ (s : Slot). s.total) c.in_ok-add_product.ensures.ok))
+    c.in_ok-add_product.ensures.fits)
 
 -- the loop has come to the end of the vector
 ended : (n limit k : ℕ) (b : Laurent) (w : FockVector) (before slots : List Slot) →
@@ -132,8 +130,13 @@ returns c =
       too_large = λ e. absurd (cc);
     }
 
-pub returns-in-Err-clause-too_large : goal.returns-in-Err-clause-too_large
-returns-in-Err-clause-too_large c large =
+-- the fault that is handed on is the one that came
+fault_same : {T : Type 0} (r : Result T FockFault) (x : FockFault) → r ≡ Err TooLarge → IsErrAnd r (λ y. y ≡ x) →
+    x ≡ TooLarge
+fault_same r x large h = sym (subst (λ r. IsErrAnd r (λ y. y ≡ x)) large h)
+
+pub returns-in_err-add_product-clause-too_large : goal.returns-in_err-add_product-clause-too_large
+returns-in_err-add_product-clause-too_large c large =
     let n = c.self.inside.degree in
     let before = c.self.inside.slots.items in
     let slots = c.loop-k.slots.items in
@@ -146,16 +149,17 @@ returns-in-Err-clause-too_large c large =
     (c.pairs-pairs.ensures.value ∙ ap entries_of c.vector.ensures) c.loop-k-test.true
     c.index-pairs-k.is c.from-index.ensures in
     let total = made c.args.a.now c.in_ok-negated.negated slots index
-    (grown c.in_ok-negated.negated c.replace-slot.result (get_or c.pairs-pairs.result.now c.loop-k.k t).1)
-    c.replace-slot.result c.index_mut.result.now c.pairs-pairs.result.now c.loop-k.k t refl c.in_ok-negated.ensures
-    c.replace-slot.ensures.value c.index_mut.ensures.value (omega (arith, e.within, c.loop-k.invariant.count))
-    c.index-pairs-k.is in
+    (grown c.in_ok-negated.negated c.index_mut.result.now (get_or c.pairs-pairs.result.now c.loop-k.k t).1)
+    c.index_mut.result.now c.pairs-pairs.result.now c.loop-k.k t refl c.in_ok-negated.ensures
+    c.index_mut.ensures.value (omega (arith, e.within, c.loop-k.invariant.count)) c.index-pairs-k.is in
+    let same = fault_same c.from_residual-in_err-add_product.result c.in_err-add_product.field-0.0 large
+    c.from_residual-in_err-add_product.ensures.1 in
     subst (λ u. c.args.limit < subtraction_weight u c.args.a.now w) c.self.view_is
     (weight_past n c.args.limit c.args.a.now w before c.self.invariant c.terms-held.ensures.held.laurent
     (ascending c.vector.result.now w c.vector.ensures c.pairs-pairs.ensures.held) slots c.loop-k.k index t
     c.loop-k.invariant e.lt e.within e.is e.at
     (subst (λ m. c.args.limit < m) (ap (λ (s : Slot). s.total) total)
-    (let is : c.in-Err.fault ≡ TooLarge = cc in c.in-Err.ensures.too_large (ap Err is))))
+    (c.in_err-add_product.ensures.too_large (ap Err same))))
 
 pub invariant_of-result : goal.invariant_of-result
 invariant_of-result c = record { count = c.loop-k.invariant.count; each = c.loop-k.invariant.each }

@@ -1,24 +1,18 @@
-use Rattle.std.proofs.Common.{◌+◌, ◌*◌, ◌<◌, ◌^◌, refl, sym, ◌∙◌, ap₂, subst, arith}
-use Rattle.sp_defs.specs.Laurent.{plus, times, size}
+use Rattle.std.proofs.Common.{sym, ◌∙◌, ap₂, subst}
+use Rattle.sp_defs.specs.Laurent.{plus, times}
 use Rattle.sp_defs.specs.Within.{PowersWithin}
 use Rattle.sp_algebra.proofs.Sizes.{within_plus, within_times}
 use Rattle.sp_laurent.specs.Held.{IsHeld}
 use Rattle.sp_laurent.proofs.Held.{held_sum}
-use Rattle.sp_laurent.proofs.Laurent.plus_product.Goals as goal
+use Rattle.sp_laurent.proofs.Laurent.plus_product_within.Goals as goal
 
 pub invariant_of-result : goal.invariant_of-result
 invariant_of-result c =
     let sum = c.in_ok-add_product.ensures ∙ ap₂ plus c.self.view_is
     (ap₂ times (c.deref.ensures.value ∙ c.a.view_is) (c.deref-2.ensures.value ∙ c.b.view_is)) in
-    let fits : size c.args.self + size c.args.a.now * size c.args.b.now < 2 ^ 127 =
-    omega (
-      arith,
-      c.if-not-is_within.ensures.0 refl,
-      c.size.ensures.value,
-      ap₂ (λ x y. x * y) c.size-2.ensures.value c.size-3.ensures.value,
-    ) in
     subst IsHeld (sym sum)
-    (held_sum c.args.self c.args.a.now c.args.b.now c.size.ensures.held fits c.requires.within)
+    (held_sum c.args.self c.args.a.now c.args.b.now (subst IsHeld c.self.view_is c.self.invariant) c.requires.fits
+    c.requires.within)
 
 pub returns-clause-powers : goal.returns-clause-powers
 returns-clause-powers c d old product =
