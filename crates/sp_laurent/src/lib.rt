@@ -114,6 +114,16 @@ impl Laurent {
         size_of(&self.terms)
     }
 
+    /// The polynomial with these terms, of which none is 0 and whose powers ascend.
+    pub fn from_terms(alloc: Global, terms: &[Term]) -> Result<Laurent, AllocError>
+        requires { IsHeld terms.now }
+        ensures { IfOk result (λ p. p ≡ terms.now) }
+    {
+        Ok(Laurent {
+            terms: Vec::from_slice(alloc, terms)?,
+        })
+    }
+
     /// The same polynomial in memory of its own.
     pub fn copy(&self, alloc: Global) -> Result<Laurent, AllocError>
         ensures { IfOk result (λ p. p ≡ self.now) }

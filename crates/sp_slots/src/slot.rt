@@ -6,7 +6,7 @@ ghost use Rattle.sp_laurent.specs.Held.{IsHeld, power_limit};
 ghost use Rattle.sp_slots.specs.Slot.{nothing, sized, grown, IsSlot};
 
 use sp_fock::FockFault;
-use sp_laurent::Laurent;
+use sp_laurent::{Laurent, Term, size_of};
 use std::alloc::{AllocError, Global};
 use std::mem;
 
@@ -26,6 +26,17 @@ impl Slot {
             coefficient: Laurent::zero(alloc),
             total: 0,
         }
+    }
+
+    /// The polynomial with these terms, with its size as the total.
+    pub(crate) fn of_terms(alloc: Global, terms: &[Term]) -> Result<Slot, AllocError>
+        requires { IsHeld terms.now }
+        ensures { IfOk result (λ slot. slot ≡ sized terms.now) }
+    {
+        Ok(Slot {
+            coefficient: Laurent::from_terms(alloc, terms)?,
+            total: size_of(terms),
+        })
     }
 
     /// A polynomial with its size as the total.

@@ -12,6 +12,7 @@ use crate::slot::Slot;
 use sp_fock::{FockFault, Vector};
 use sp_laurent::Laurent;
 use sp_partition::Partition;
+use sp_ranks::RankVector;
 use std::alloc::{AllocError, Global};
 use std::marker::Model;
 
@@ -46,6 +47,27 @@ impl Slots {
         for p in all {
             if place < pairs.len() && pairs[place].0 == *p {
                 slots.push(Slot::sized(alloc, &pairs[place].1)?)?;
+                place += 1;
+            } else {
+                slots.push(Slot::empty(alloc))?;
+            }
+        }
+        Ok(Slots {
+            degree: v.degree(),
+            slots,
+        })
+    }
+
+    /// The same for a vector over ranks.
+    pub fn from_ranks(alloc: Global, all: &[Partition], v: &RankVector) -> Result<Slots, AllocError>
+        requires { all.now ≡ partitions v.now.degree }
+        ensures { IfOk result (λ slots. slots ≡ tally_of v.now) }
+    {
+        let mut slots = Vec::with_capacity(alloc, all.len())?;
+        let mut place = 0;
+        for index in 0..all.len() {
+            if place < v.count() && usize::from(v.rank(place)) == index {
+                slots.push(Slot::of_terms(alloc, v.terms(place))?)?;
                 place += 1;
             } else {
                 slots.push(Slot::empty(alloc))?;
