@@ -36,7 +36,7 @@ pub fn check(alloc: Global, certificate: &Certificate, limit: u128) -> Result<Ve
     ensures refused { IfErr result
         (IsCause (key_of certificate.now.e certificate.now.degree limit) certificate.now.columns) }
 {
-    let ctx = Ctx::open(alloc, certificate.e(), certificate.degree(), limit)?;
+    let ctx = Ctx::open_for_all(alloc, certificate.e(), certificate.degree(), limit)?;
     check_in(alloc, &ctx, certificate)
 }
 

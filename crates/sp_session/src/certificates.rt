@@ -26,7 +26,7 @@ pub(crate) fn put_certificate<F: Filler>(
     requires small { n ≤ DEGREE_LIMIT }
     ensures { OnOk result (out.new.items ≡ out.old.items ++ certificate_reply limit e n) }
 {
-    let ctx = Ctx::open(alloc, e, n, limit)?;
+    let ctx = Ctx::open_for_all(alloc, e, n, limit)?;
     let rows = filler.fill(alloc, &ctx)?;
     match write(alloc, &ctx, &rows, out) {
         Ok(()) => Ok(()),

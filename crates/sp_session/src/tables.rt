@@ -37,7 +37,7 @@ pub(crate) fn crystal_table<F: Filler>(
     ensures all { IfOk result (λ table. IfOk table (HasAll e)) }
     ensures triangular { IfOk result (λ table. IfOk table (λ grid. IsSquareUnitriangular grid.columns (cell_at grid))) }
 {
-    let ctx = Ctx::open(alloc, e, n, limit)?;
+    let ctx = Ctx::open_for_all(alloc, e, n, limit)?;
     let rows = filler.fill(alloc, &ctx)?;
     told(crystal(alloc, &ctx, &rows))
 }
@@ -58,7 +58,7 @@ pub(crate) fn decomposition_table<F: Filler>(
     requires small { n ≤ DEGREE_LIMIT }
     ensures { IfOk result (λ table. table ≡ decomposition_table limit e n) }
 {
-    let ctx = Ctx::open(alloc, e, n, limit)?;
+    let ctx = Ctx::open_for_all(alloc, e, n, limit)?;
     let rows = filler.fill(alloc, &ctx)?;
     told(decomposition(alloc, &ctx, &rows))
 }
@@ -117,7 +117,7 @@ fn block_within<F: Filler>(
     requires small { n ≤ DEGREE_LIMIT }
     ensures { IfOk result (λ table. table ≡ block_within limit e kappa.now n) }
 {
-    let ctx = Ctx::open(alloc, e, n, limit)?;
+    let ctx = Ctx::open_for_all(alloc, e, n, limit)?;
     let rows = filler.fill(alloc, &ctx)?;
     told(block(alloc, &ctx, &rows, kappa))
 }
