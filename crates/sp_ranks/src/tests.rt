@@ -2,45 +2,59 @@
 ghost use Rattle.std.specs.Prelude.{◌≤◌, ◌<◌, ◌^◌};
 
 use crate::{Moves, ladder_vector};
-use sp_partition::{Partition, rank};
+use sp_laurent::Term;
+use sp_partition::{DEGREE_LIMIT, Partition, rank};
 use sp_power::PowerFault;
-use std::alloc::Global;
+use std::alloc::{AllocError, Global};
 use std::test::Fail;
 
-/// How many partitions a ladder vector has, how many terms in all, and the sum of all coefficients; or what refused it.
-fn counted(
+/// The terms of a ladder vector, each with the rank of its partition, or what refused it. None where the partition is not
+/// regular.
+fn ranked_terms(
     alloc: Global,
     e: u8,
     parts: &[u8],
     limit: u128,
-) -> Result<(usize, usize, i128), PowerFault>
+) -> Result<Vec<(u16, i32, i128)>, PowerFault>
     requires e_least { 2 ≤ e }
     requires e_most { e ≤ 64 }
     requires least { 1 ≤ limit }
     requires most { limit < 2 ^ 127 }
 {
+    let mut terms = Vec::new(alloc);
     let mu = Partition::from_parts(parts).unwrap_or(Partition::empty());
-    if !mu.is_regular(e) || mu.degree() > 30 {
-        return Ok((0, 0, 0));
+    if !mu.is_regular(e) || mu.degree() > DEGREE_LIMIT {
+        return Ok(terms);
     }
     let moves = Moves::open(alloc, mu.degree())?;
     let vector = ladder_vector(alloc, &moves, e, &mu, limit)?;
-    let mut terms = 0;
-    let mut sum = 0;
     for place in 0..vector.count() {
-        for term in vector.terms(place) {
-            terms += 1;
-            sum += term.1;
-        }
+        push_terms(&mut terms, vector.rank(place), vector.terms(place))?;
     }
-    Ok((vector.count(), terms, sum))
+    Ok(terms)
+}
+
+fn push_terms(
+    terms: &mut Vec<(u16, i32, i128)>,
+    rank: u16,
+    polynomial: &[Term],
+) -> Result<(), AllocError> {
+    for (power, coefficient) in polynomial {
+        terms.push((rank, *power, *coefficient))?;
+    }
+    Ok(())
 }
 
 #[test]
 fn ladder_vectors_and_limits(rt: HostRuntime) -> Result<(), Fail> {
     let alloc = rt.alloc();
-    // [5] + [3,2] + 2v[3,1^2] + v^2[2^2,1] + v^2[1^5]
-    assert_eq!(rt; counted(alloc, 2, &[5], 2)?, (5, 5, 6));
+    // [5] + [3,2] + 2v[3,1^2] + v^2[2^2,1] + v^2[1^5]; of 5: [1^5], [2,1^3], [2^2,1], [3,1^2], [3,2], [4,1], [5]
+    let wanted = [(0, 2, 1), (2, 2, 1), (3, 1, 2), (4, 0, 1), (6, 0, 1)];
+    assert_eq!(rt;
+        ranked_terms(alloc, 2, &[5], 2)?.as_slice(),
+        wanted.as_slice()
+    );
+    assert!(rt; matches!(ranked_terms(alloc, 2, &[5], 1), Err(PowerFault::TooLarge)));
     Ok(())
 }
 
