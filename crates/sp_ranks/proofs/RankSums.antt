@@ -93,13 +93,8 @@ module _ (es : Entries) (run : List Arrival) (count : ℕ) (sum : Laurent) (h : 
     -- The limit has room for one move more.
     pub one_fits : (limit : ℕ) → sum_by (size_at es) run < limit → size sum + size_at es t < limit
     one_fits limit fits =
-        omega (
-          arith,
-          fits,
-          same_sizes 0 es run,
-          share_fits es (arrivals_at 0 run) count (arrival_at 0 t) sum
-              (sum_by (size_of es) (arrivals_at 0 run)) there at h.so_far (omega arith),
-        )
+        share_fits es (arrivals_at 0 run) count (arrival_at 0 t) sum limit there at h.so_far
+        (subst (λ total. total < limit) (sym (same_sizes 0 es run)) fits)
 
     -- One move more adds its share.
     pub one_more : (n : ℕ) (new : Laurent) → IsBroughtBy n es t → new ≡ plus sum (share_at es t) →
