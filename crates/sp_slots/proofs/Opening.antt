@@ -1,16 +1,22 @@
 -- Slots that are made along the pairs of a vector, which stand in the order of the partitions.
 use Rattle.std.proofs.Common.{◌≡◌, ◌≢◌, ℕ, ◌+◌, ◌<◌, ◌≤◌, List, [], ◌∷◌, ◌++◌, map, take, drop, length, get_or}
+use Rattle.std.proofs.Common.{nat_eq, ◌⊎◌, inl, inr, true≢false}
 use Rattle.std.proofs.Common.{zero, suc, ◌-◌, refl, sym, ◌∙◌, ap, ap₂, subst, arith, true, false, cond, Less, Equal}
 use Rattle.std.specs.List.{AllByRecursion}
+use Rattle.std.proofs.Math.Seq.{take-length}
+use Rattle.std.proofs.lemmas.Bool.Decides.{eqb_tells}
 use Rattle.std.proofs.lemmas.List.{drop_more, length-drop, map-append, take_more}
 use Rattle.sp_defs.specs.Partition.{compare, partitions, Ascending, IsEarlier}
 use Rattle.sp_defs.specs.Laurent.{Laurent}
 use Rattle.sp_defs.specs.Power.{Entries, Vector, FockVector, vector_of, IsVector}
+use Rattle.sp_lists.proofs.Comparing.{test_same}
 use Rattle.sp_lists.proofs.Places.{all_weaken}
 use Rattle.sp_shapes.proofs.Order.{equal_self}
 use Rattle.sp_shapes.proofs.Listing.{partitions_ascend}
 use Rattle.sp_fock_law.specs.Joined.{is_nonzero}
 use Rattle.sp_fock_law.proofs.Vectors.{all_at, entries_at, entries-vector_of, nonzero_or_nil}
+use Rattle.sp_ranks.specs.Ranks.{partition_at}
+use Rattle.sp_ranks.proofs.RankRuns.{same_rank}
 use Rattle.sp_slots.specs.declared.slot.Slot.{Slot}
 use Rattle.sp_slots.specs.Slot.{nothing, sized}
 
@@ -117,3 +123,27 @@ module _ (v : FockVector) (all : List (List ℕ)) (is : all ≡ partitions v.deg
 
       taken : (t : List ℕ × Laurent) (ts : Entries) → drop place v.entries ≡ t ∷ ts → t ≡ get_or v.entries place d
       taken t ts first = ap (λ es. get_or es 0 t) (sym first ∙ drop_more v.entries place d (some t ts first))
+
+-- the slots of a vector at some partitions
+abbrev pub slots_of : FockVector → List (List ℕ) → List Slot
+slots_of v ps = map (λ p. sized (vector_of v.entries p)) ps
+
+-- Once the list is at its end, all slots are made.
+pub all_slots : (v : FockVector) (all : List (List ℕ)) (k : ℕ) (slots : List Slot) → all ≡ partitions v.degree →
+    slots ≡ slots_of v (take k all) → k ≡ length all → slots ≡ slots_of v (partitions v.degree)
+all_slots v all k slots same h end =
+    h ∙ ap (λ i. slots_of v (take i all)) end ∙ ap (slots_of v) (take-length all ∙ same)
+
+-- ---- ranks
+
+-- Partitions of other ranks are others.
+pub other_rank : (n a b : ℕ) → a < length (partitions n) → b < length (partitions n) → a ≢ b →
+    partition_at n a ≢ partition_at n b
+other_rank n a b a_there b_there ne same = settle (eqb_tells a b)
+  where
+    test : nat_eq a b ≡ true
+    test = sym (same_rank n a b a_there b_there) ∙ test_same (partition_at n a) (partition_at n b) same
+
+    settle : ((nat_eq a b ≡ true) × (a ≡ b)) ⊎ ((nat_eq a b ≡ false) × (a ≢ b)) → ⊥
+    settle (inl (_, is)) = ne is
+    settle (inr (fails, _)) = true≢false (sym test ∙ fails)

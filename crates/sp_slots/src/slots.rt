@@ -63,6 +63,7 @@ impl Slots {
         requires { all.now ≡ partitions v.now.degree }
         ensures { IfOk result (λ slots. slots ≡ tally_of v.now) }
     {
+        let degree = v.degree();
         let mut slots = Vec::with_capacity(alloc, all.len())?;
         let mut place = 0;
         for index in 0..all.len() {
@@ -73,10 +74,7 @@ impl Slots {
                 slots.push(Slot::empty(alloc))?;
             }
         }
-        Ok(Slots {
-            degree: v.degree(),
-            slots,
-        })
+        Ok(Slots { degree, slots })
     }
 
     /// The polynomial at the partition of a place. It takes no memory.

@@ -1,30 +1,20 @@
-use Rattle.std.proofs.Common.{◌≡◌, ◌≢◌, ℕ, ◌+◌, ◌<◌, List, [], ◌∷◌, ◌++◌, map, take, length, get_or, Vec, Global}
+use Rattle.std.proofs.Common.{◌≡◌, ◌≢◌, ℕ, ◌+◌, ◌<◌, List, [], ◌∷◌, ◌++◌, length, get_or, Vec, Global}
 use Rattle.std.proofs.Common.{sym, ◌∙◌, ap, ap₂, subst, arith}
 use Rattle.std.specs.Cmp.Lexicographic.{same_text, other_text}
 use Rattle.sp_defs.specs.Laurent.{Laurent}
-use Rattle.std.proofs.Math.Seq.{take-length}
 use Rattle.std.proofs.lemmas.List.{get_or_default}
 use Rattle.sp_defs.specs.Partition.{partitions}
-use Rattle.sp_defs.specs.Power.{Entries, FockVector, vector_of}
+use Rattle.sp_defs.specs.Power.{Entries}
 use Rattle.sp_slots.specs.declared.slot.Slot.{Slot}
 use Rattle.sp_slots.specs.Slot.{sized}
 use Rattle.sp_slots.specs.Slots.{AreSlots, tally_in}
 use Rattle.sp_slots.proofs.Reading.{sized_slots, sized_tally}
-use Rattle.sp_slots.proofs.Opening.{IsOpened, opened_first, opened_here, opened_none}
+use Rattle.sp_slots.proofs.Opening.{IsOpened, all_slots, opened_first, opened_here, opened_none, slots_of}
 use Rattle.sp_slots.proofs.slots.Slots.from_vector.Goals as goal
 use Rattle.sp_slots.proofs.slots.Slots.from_vector.Goals.{then-place-pairs+then-eq+in_ok-sized+in_ok-push}
 use Rattle.sp_slots.proofs.slots.Slots.from_vector.Goals.{else-place-pairs+in_ok-push-2}
 use Rattle.sp_slots.proofs.slots.Slots.from_vector.Goals.{else-place-pairs-via-then-place-pairs+else-eq}
 use Rattle.sp_slots.proofs.slots.Slots.from_vector.Goals.{else-place-pairs-via-else-place-pairs}
-
-abbrev slots_of : FockVector → List (List ℕ) → List Slot
-slots_of v ps = map (λ p. sized (vector_of v.entries p)) ps
-
--- the loop has come to the end of the list
-all_slots : (v : FockVector) (all : List (List ℕ)) (k : ℕ) (slots : List Slot) → all ≡ partitions v.degree →
-    slots ≡ slots_of v (take k all) → k ≡ length all → slots ≡ slots_of v (partitions v.degree)
-all_slots v all k slots same h end =
-    h ∙ ap (λ i. slots_of v (take i all)) end ∙ ap (slots_of v) (take-length all ∙ same)
 
 pub invariant_of-result : goal.invariant_of-result
 invariant_of-result c =
