@@ -1,4 +1,4 @@
-use Rattle.std.proofs.Common.{◌≡◌, ◌<◌, ◌≤◌, sym, ◌∙◌, ap, ap₂, subst, Err}
+use Rattle.std.proofs.Common.{◌≡◌, ◌<◌, ◌≤◌, sym, ◌∙◌, ap, ap₂, subst, arith, Err}
 use Rattle.sp_defs.specs.Partition.{is_regular, degree, partitions}
 use Rattle.sp_defs.specs.Power.{FockVector}
 use Rattle.sp_defs.specs.Ladder.{ladder_weight}
@@ -18,6 +18,14 @@ ladder_vector-requires-clause-regular c =
     c.requires.rank in
     ap₂ (λ (key : Key) mu. is_regular key.e mu) c.key-key.ensures.value is
     ∙ (label_facts c.args.ctx.now c.args.k p).regular.regular
+
+pub ladder_vector-requires-clause-degree : goal.ladder_vector-requires-clause-degree
+ladder_vector-requires-clause-degree c =
+    let is = read_label c.args.ctx.now c.args.k c.regulars.result.now c.index-regulars-k.result c.regulars.ensures.value
+    c.requires.rank c.index-regulars-k.is in
+    let p : IsPlace (place c.args.ctx.now c.args.k) = place_of c.args.ctx.now c.args.k c.regulars.ensures.held
+    c.requires.rank in
+    omega (arith, ap degree is ∙ (label_facts c.args.ctx.now c.args.k p).total, c.requires.moves)
 
 pub from_ranks-requires : goal.from_ranks-requires
 from_ranks-requires c =
