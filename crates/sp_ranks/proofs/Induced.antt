@@ -1,5 +1,5 @@
 -- Moves that are sorted by rank are sorted by partition; so what their runs sum up to is the divided power.
-use Rattle.std.proofs.Common.{◌≡◌, ℕ, ◌+◌, ◌*◌, ◌<◌, ◌≤◌, false, List, [], length, get_or, refl, sym, ◌∙◌, ap, subst}
+use Rattle.std.proofs.Common.{◌≡◌, ℕ, ◌+◌, ◌*◌, ◌<◌, ◌≤◌, false, List, length, get_or, refl, sym, ◌∙◌, ap, subst}
 use Rattle.std.proofs.Common.{arith, nat_cmp, is_lt, pos, ◌⊎◌, inl, inr}
 use Rattle.std.specs.List.{AllByRecursion}
 use Rattle.std.specs.List.Sorted.{IsPermutation, IsSortedByKey}
@@ -7,14 +7,14 @@ use Rattle.std.proofs.lemmas.List.{get_or-map, length-map}
 use Rattle.std.proofs.lemmas.List.Elements.{All-from_recursion, recursion_from_All}
 use Rattle.std.proofs.lemmas.List.Sorted.{All-permutation, IsNonDecreasingBy-from_sort, IsPermutation-map}
 use Rattle.sp_defs.specs.Partition.{order, compare, partitions}
-use Rattle.sp_defs.specs.Power.{Entries, FockVector, IsVector, fock_vector, vector_of, divided_power, greatest}
+use Rattle.sp_defs.specs.Power.{FockVector, IsVector, fock_vector, vector_of, divided_power, greatest}
 use Rattle.sp_defs.specs.Power.{induction_weight}
 use Rattle.sp_lists.proofs.Elements.{all_both, map_all, le_or_lt}
 use Rattle.sp_lists.proofs.Places.{all_at, all_weaken}
 use Rattle.sp_partition.specs.OrderLaws.{order_one_degree}
 use Rattle.sp_partition.specs.declared.TheConstants.{DEGREE_LIMIT}
 use Rattle.sp_shapes.proofs.Order.{equal_self, later_than}
-use Rattle.sp_power.specs.Arrivals.{half_power_limit, AllWithin, IsBrought, AreSorted}
+use Rattle.sp_power.specs.Arrivals.{half_power_limit, AllWithin, IsBrought}
 use Rattle.sp_power.proofs.Induced.{all_brought, sizes_by, sorted_by, vector_after, within_after}
 use Rattle.sp_power_law.specs.Runs.{arrivals, runs, sums_of, sizes_of}
 use Rattle.sp_ranks.specs.Arrivals.{arrival_at, arrivals_at, IsBroughtBy}

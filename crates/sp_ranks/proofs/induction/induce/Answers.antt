@@ -1,5 +1,5 @@
 -- The runs of the sorted moves are the divided power, by the theorem on them.
-use Rattle.std.proofs.Common.{ℕ, arith, ◌≤◌, ◌<◌, subst}
+use Rattle.std.proofs.Common.{◌≤◌, ◌<◌, subst}
 use Rattle.std.specs.declared.result.Result.{Result}
 use Rattle.std.specs.declared.result.Result.TheVariants.{Ok, Err}
 use Rattle.std.specs.Result.{IfOk}
