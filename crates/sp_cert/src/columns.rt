@@ -1,6 +1,6 @@
 // The lines of a column: what one share or one entry more makes of it, where it is allowed.
-ghost use Rattle.std.specs.Prelude.{◌≡◌, ◌≢◌, ◌&&◌, nat_lt, cond, true, false, [], reverse, None as Nothing, Some as Just};
-ghost use Rattle.std.specs.Prelude.{MatchOption, IfOk, IfSome};
+ghost use Rattle.std.specs.Prelude.{◌≡◌, ◌≢◌, ◌&&◌, nat_lt, cond, true, false, [], reverse};
+ghost use Rattle.std.specs.Prelude.{None as Nothing, Some as Just, MatchOption, IfOk, IfSome};
 ghost use Rattle.std.specs.Option.{option_map};
 ghost use Rattle.sp_defs.specs.Partition.{IsPartitionOf, IsRegularOf};
 ghost use Rattle.sp_laurent.specs.Readable.{IsReadable};

@@ -97,7 +97,8 @@ module _ (e i m : ℕ) (v : FockVector) (ts : List Arrival) (s : AreSortedByRank
   pub all_brought_by : AllWithin half_power_limit v.entries → AllByRecursion (IsBroughtBy (n + m) v.entries) read
   all_brought_by within =
       as_read (λ k l. AllByRecursion (IsBroughtBy k v.entries) l)
-      (all_weaken (λ t. IsBrought v.entries (arrival_at (v.degree + m) t) × (t.rank < length (partitions (v.degree + m))))
+      (all_weaken
+      (λ t. IsBrought v.entries (arrival_at (v.degree + m) t) × (t.rank < length (partitions (v.degree + m))))
       (IsBroughtBy (v.degree + m) v.entries) ts
       (λ t h. record { source = h.0.there; rank = h.1; near = h.0.near; powers = h.0.powers })
       (all_both (λ t. IsBrought v.entries (arrival_at (v.degree + m) t))

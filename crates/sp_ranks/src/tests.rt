@@ -8,8 +8,8 @@ use sp_power::PowerFault;
 use std::alloc::{AllocError, Global};
 use std::test::Fail;
 
-/// The terms of a ladder vector, each with the rank of its partition, or what refused it. None where the partition is not
-/// regular.
+/// The terms of a ladder vector, each with the rank of its partition, or what refused it. None where the partition is
+/// not regular.
 fn ranked_terms(
     alloc: Global,
     e: u8,

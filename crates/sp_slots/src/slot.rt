@@ -56,8 +56,8 @@ impl Slot {
         self.coefficient.terms().is_empty()
     }
 
-    /// Adds `a` times `b`. `size_of_a` is the size of `a`. The total grows by the product of their sizes: past the limit
-    /// it is too large. The total covers the size of the polynomial, so no other check is needed.
+    /// Adds `a` times `b`. `size_of_a` is the size of `a`. The total grows by the product of their sizes: past the
+    /// limit it is too large. The total covers the size of the polynomial, so no other check is needed.
     pub(crate) fn add_product(
         &mut self,
         alloc: Global,

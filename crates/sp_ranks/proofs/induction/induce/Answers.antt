@@ -8,7 +8,8 @@ use Rattle.sp_ranks.proofs.Induced.{all_brought_by, read_sorted, weight_by, vect
 use Rattle.sp_ranks.proofs.induction.induce.Goals as goal
 
 -- What two facts of a value say together.
-both : {T E : Type 0} (r : Result T E) (P Q R : T → Type 0) → ((x : T) → P x → Q x → R x) → IfOk r P → IfOk r Q → IfOk r R
+both : {T E : Type 0} (r : Result T E) (P Q R : T → Type 0) → ((x : T) → P x → Q x → R x) → IfOk r P → IfOk r Q →
+    IfOk r R
 both (Ok x) P Q R f p q = f x p q
 both (Err fault) P Q R f p q = tt
 

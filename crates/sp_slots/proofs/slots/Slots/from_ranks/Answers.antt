@@ -17,11 +17,12 @@ use Rattle.sp_slots.proofs.slots.Slots.from_ranks.Goals.{else-place-count-via-el
 
 pub invariant_of-result : goal.invariant_of-result
 invariant_of-result c =
+    let v = c.args.v.now in
     let end : c.loop-index.index ≡ length c.args.all.now = omega arith in
-    let whole = all_slots c.args.v.now c.args.all.now c.loop-index.index c.loop-index.slots.items c.requires
+    let whole = all_slots v c.args.all.now c.loop-index.index c.loop-index.slots.items c.requires
     c.loop-index.invariant.slots_are end in
     subst (AreSlots c.degree-degree.result) (sym whole)
-    (subst (λ n. AreSlots n (slots_of c.args.v.now (partitions c.args.v.now.degree))) (sym c.degree-degree.ensures.value)
+    (subst (λ n. AreSlots n (slots_of v (partitions v.degree))) (sym c.degree-degree.ensures.value)
     (sized_slots c.args.v.now c.degree-degree.ensures.held))
 
 pub returns : goal.returns
@@ -68,7 +69,8 @@ loop-index-preserved c =
           (subst (IsOpened v all (k + 1) place) (sym made)
           (elim w.else-place-count.branch [
             | else-place-count-via-then-place-count+else-from-index u ↦
-                let differ : u.rank.result ≢ k = λ same. absurd (omega (arith, same, u.if-from-index.false, u.from.ensures)) in
+                let differ : u.rank.result ≢ k =
+                λ same. absurd (omega (arith, same, u.if-from-index.false, u.from.ensures)) in
                 opened_none v all c.requires k place slots c.loop-index.invariant p lt at ([], [])
                 (λ _ same. other_rank v.degree u.rank.result k u.rank.ensures.there there differ
                 (u.rank.ensures.partition ∙ same ∙ here))
