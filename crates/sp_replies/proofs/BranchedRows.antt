@@ -22,15 +22,17 @@ use Rattle.sp_llt.specs.Laws.{ObeysRowLaw, row_powers}
 use Rattle.sp_llt.specs.Place.{Place, IsPlace, key_of, place, label}
 use Rattle.sp_llt.specs.Refusals.{outcome_at}
 use Rattle.sp_llt.specs.declared.refused.Refused.{Refused}
+use Rattle.sp_llt.specs.declared.refused.Refused.TheVariants as refused
 use Rattle.sp_power.proofs.Units.{all_more}
 use Rattle.sp_power.specs.Arrivals.{half_power_limit, AllWithin}
 use Rattle.sp_row_law.proofs.Contents.{row_content_law}
 use Rattle.sp_sl2_law.proofs.Enlarged.{restriction-alike, restriction_weight-alike}
 use Rattle.sp_sl2_law.proofs.Targets.{entry_there}
 use Rattle.sp_sl2_law.specs.Restriction.{restriction}
-use Rattle.sp_replies.specs.Refusals.{refusal_line}
+use Rattle.sp_replies.specs.Refusals.{by_row, refusal_line}
 use Rattle.sp_replies.specs.Restrictions.{restriction_or_refusal, branch_text, branch_or_refusal}
 use Rattle.sp_replies.specs.Words.{line_of}
+use Rattle.sp_replies.specs.declared.refusals.Refusal.{Refusal}
 use Rattle.sp_replies.specs.declared.refusals.Refusal.TheVariants as refusal
 
 -- ---- powers
@@ -157,3 +159,16 @@ branched_entry p e n limit rank i mu row e_least partition regular p_is n_is lab
     (there
     ∙ ap (λ (q : Place). outcome_at q) p_is
     ∙ ap (outcome e limit) label_is)
+
+-- And one that tells none tells why.
+pub refused_entry : (p : Place) (e n limit rank i : ℕ) (mu : List ℕ) (why : Refused) (told : Refusal) →
+    p ≡ place (key_of e n limit) rank → label (key_of e n limit) rank ≡ mu → outcome_told (Err why) ≡ outcome_at p →
+    told ≡ by_row why → refusal_line told ≡ branch_text limit e i mu
+refused_entry p e n limit rank i mu why told p_is label_is there told_is =
+    ap refusal_line told_is
+    ∙ line why
+    ∙ ap (branch_or_refusal limit e i mu) (there ∙ ap (λ (q : Place). outcome_at q) p_is ∙ ap (outcome e limit) label_is)
+  where
+    line : (w : Refused) → refusal_line (by_row w) ≡ branch_or_refusal limit e i mu (outcome_told (Err w))
+    line refused.TooLarge = refl
+    line (refused.Stray at) = refl
