@@ -29,7 +29,7 @@ mod values;
 
 pub use fault::{LaurentFault, ParseFault};
 pub use law::values_law;
-pub use products::add_multiple;
+pub use products::add_shifted;
 pub use sums::{size_of, without_product};
 pub use text::print_term;
 pub use values::TooLarge;
@@ -316,7 +316,7 @@ impl Laurent {
         ensures held { IfOk result (λ p. IsHeld p) }
     {
         let mut terms = self.terms;
-        add_multiple(&mut terms, (power, 1), &other.terms)?;
+        add_shifted(&mut terms, power, &other.terms)?;
         Ok(Laurent { terms })
     }
 

@@ -31,15 +31,28 @@ pub(crate) fn negated(alloc: Global, terms: &[Term]) -> Result<Vec<Term>, AllocE
     Ok(negated)
 }
 
+/// Appends the terms with a number added to their powers.
+pub(crate) fn push_shifted(
+    out: &mut Vec<Term>,
+    terms: &[Term],
+    power: i32,
+) -> Result<(), AllocError>
+    requires { ProductWithin power_limit (monomial power (pos 1)) terms.now }
+    ensures { OnOk result (out.new.items ≡ out.old.items ++ map (λ t. (power +ℤ t.0, t.1)) terms.now) }
+{
+    for (place, coefficient) in terms {
+        out.push((power + *place, *coefficient))?;
+    }
+    Ok(())
+}
+
 /// The terms with a number added to their powers.
 pub(crate) fn shifted(alloc: Global, terms: &[Term], power: i32) -> Result<Vec<Term>, AllocError>
     requires { ProductWithin power_limit (monomial power (pos 1)) terms.now }
     ensures { IfOk result (λ v. v.items ≡ map (λ t. (power +ℤ t.0, t.1)) terms.now) }
 {
     let mut shifted = Vec::with_capacity(alloc, terms.len())?;
-    for (place, coefficient) in terms {
-        shifted.push((power + *place, *coefficient))?;
-    }
+    push_shifted(&mut shifted, terms, power)?;
     Ok(shifted)
 }
 

@@ -1,13 +1,14 @@
 //! Products that are added to a list of terms in place.
 ghost use Rattle.std.specs.Prelude.{◌≡◌, ◌+◌, ◌*◌, ◌^◌, ◌<◌, ◌≤◌, ◌<ℤ◌, ◌≤ℤ◌, [], ◌∷◌, unsigned_abs, length, take};
-ghost use Rattle.std.specs.Prelude.{drop};
+ghost use Rattle.std.specs.Prelude.{drop, pos};
 ghost use Rattle.std.specs.Prelude.{IfOk, OnOk};
-ghost use Rattle.std.specs.List.{AllByRecursion};
-ghost use Rattle.sp_defs.specs.Laurent.{IsLaurent, size, add_term, plus, times};
+ghost use Rattle.std.specs.List.{insert, AllByRecursion};
+ghost use Rattle.sp_defs.specs.Laurent.{IsLaurent, size, add_term, monomial, plus, times};
 ghost use Rattle.sp_defs.specs.Within.{ProductWithin};
 ghost use Rattle.sp_laurent.specs.Held.{power_limit};
 
 use crate::Term;
+use crate::mirror::push_shifted;
 use crate::sums::split_first;
 use std::alloc::AllocError;
 
@@ -52,15 +53,47 @@ fn add_at(
         return Ok(place);
     }
     if there == 0 {
-        terms.insert(place, (power, sum))?;
+        insert_at(terms, place, (power, sum))?;
     } else {
         terms[place] = (power, sum);
     }
     Ok(place + 1)
 }
 
+// Inserts a term. At the end of the list none has to be moved.
+fn insert_at(terms: &mut Vec<Term>, place: usize, term: Term) -> Result<(), AllocError>
+    requires { place ≤ length terms.old.items }
+    ensures { OnOk result (terms.new.items ≡ insert terms.old.items place term) }
+{
+    if place == terms.len() {
+        terms.push(term)?;
+    } else {
+        terms.insert(place, term)?;
+    }
+    Ok(())
+}
+
+/// Adds `others * v^power`. To no terms they are appended.
+pub fn add_shifted(terms: &mut Vec<Term>, power: i32, others: &[Term]) -> Result<(), AllocError>
+    requires laurent { IsLaurent terms.old.items }
+    requires others_laurent { IsLaurent others.now }
+    requires fits { size terms.old.items + size others.now < 2 ^ 127 }
+    requires within { ProductWithin power_limit (monomial power (pos 1)) others.now }
+    ensures { OnOk result (terms.new.items ≡ plus terms.old.items (times (monomial power (pos 1)) others.now)) }
+{
+    if terms.is_empty() {
+        push_shifted(terms, others, power)
+    } else {
+        add_multiple(terms, (power, 1), others)
+    }
+}
+
 /// Adds a term's multiple of `others`, in one pass over the terms.
-pub fn add_multiple(terms: &mut Vec<Term>, term: Term, others: &[Term]) -> Result<(), AllocError>
+pub(crate) fn add_multiple(
+    terms: &mut Vec<Term>,
+    term: Term,
+    others: &[Term],
+) -> Result<(), AllocError>
     requires laurent { IsLaurent terms.old.items }
     requires others_laurent { IsLaurent others.now }
     requires fits { size terms.old.items + unsigned_abs term.1 * size others.now < 2 ^ 127 }

@@ -8,8 +8,9 @@ use Rattle.sp_defs.specs.Laurent.{Laurent, lift}
 use Rattle.sp_defs.specs.Power.{Vector}
 use Rattle.sp_lists.proofs.Elements.{all_append, filter_append}
 use Rattle.sp_core.specs.declared.piece.Key.{Key}
+use Rattle.sp_ranks.specs.Moves.{Scope}
 use Rattle.sp_llt.specs.Place.{labels, IsKey}
-use Rattle.sp_llt.specs.Places.{AreAt, ArePlaces, IsContext, partitions_at}
+use Rattle.sp_llt.specs.Places.{AreAt, ArePlaces, IsContext, partitions_at, scope_of}
 use Rattle.sp_llt.specs.Search.{lift_at}
 
 -- What has been found among the first k.
@@ -70,8 +71,8 @@ pub places_count : (key : Key) (places : List ℕ) → ArePlaces key places → 
 places_count key places h = sym (length-map places (λ i. get_or (partitions key.degree) i [])) ∙ ap length h.at
 
 -- the parts of a context, from the lists that were made
-pub context_of : (key : Key) (all listed found : List (List ℕ)) (places : List ℕ) (moves : Option ℕ) → IsKey key →
-    IfSome moves (λ n. n ≡ key.degree) → all ≡ partitions key.degree → listed ≡ all →
+pub context_of : (key : Key) (all listed found : List (List ℕ)) (places : List ℕ) (moves : Option Scope) → IsKey key →
+    IfSome moves (λ scope. scope ≡ scope_of key) → all ≡ partitions key.degree → listed ≡ all →
     found ≡ filter (is_regular key.e) listed → AreAt listed found places → IsContext key all found places moves
 context_of key all listed found places moves held moved is same regular stand = record {
   held = held;

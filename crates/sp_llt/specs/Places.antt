@@ -3,6 +3,7 @@ use Rattle.std.specs.Prelude.{◌≡◌, ℕ, ◌<◌, List, [], Option, IfSome,
 use Rattle.std.specs.List.{AllByRecursion}
 use Rattle.sp_defs.specs.Partition.{partitions}
 use Rattle.sp_core.specs.declared.piece.Key.{Key}
+use Rattle.sp_ranks.specs.Moves.{Scope}
 use Rattle.sp_llt.specs.Place.{labels, IsKey}
 
 -- The partitions at some places of a list.
@@ -18,10 +19,14 @@ pub record AreAt (all found : List (List ℕ)) (places : List ℕ) : Type 0 wher
 abbrev pub ArePlaces : Key → List ℕ → Type 0
 ArePlaces key places = AreAt (partitions key.degree) (labels key) places
 
--- What is true of the parts of a context, of which the last is the degree of a table of moves.
-pub record IsContext (key : Key) (all found : List (List ℕ)) (places : List ℕ) (moves : Option ℕ) : Type 0 where
+-- What a table of moves is for, by which the rows of a context are made.
+abbrev pub scope_of : Key → Scope
+scope_of key = record { e = key.e; degree = key.degree }
+
+-- What is true of the parts of a context, of which the last is what a table of moves is for.
+pub record IsContext (key : Key) (all found : List (List ℕ)) (places : List ℕ) (moves : Option Scope) : Type 0 where
   pub held : IsKey key
   pub listed : all ≡ partitions key.degree
   pub regulars : found ≡ labels key
   pub stand : ArePlaces key places
-  pub moved : IfSome moves (λ n. n ≡ key.degree)
+  pub moved : IfSome moves (λ scope. scope ≡ scope_of key)

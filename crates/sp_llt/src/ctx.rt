@@ -3,7 +3,7 @@ ghost use Rattle.std.specs.Prelude.{◌≡◌, ◌≤◌, ◌<◌, ◌^◌, ℕ,
 ghost use Rattle.std.specs.List.{AllByRecursion};
 ghost use Rattle.sp_defs.specs.Partition.{partitions, is_regular};
 ghost use Rattle.sp_llt.specs.Place.{key_of, labels, IsKey};
-ghost use Rattle.sp_llt.specs.Places.{AreAt, ArePlaces};
+ghost use Rattle.sp_llt.specs.Places.{AreAt, ArePlaces, scope_of};
 
 use sp_core::Key;
 use sp_partition::{DEGREE_LIMIT, Partition, all_of};
@@ -57,14 +57,14 @@ impl Ctx {
         requires most { limit < 2 ^ 127 }
         ensures { IfOk result (λ c. c ≡ key_of e degree limit) }
     {
-        let moves = Moves::open(alloc, degree)?;
+        let moves = Moves::open(alloc, e, degree)?;
         Ctx::with_moves(alloc, Key { e, degree, limit }, Some(moves))
     }
 
     // The context with this table, or with none.
     fn with_moves(alloc: Global, key: Key, moves: Option<Moves>) -> Result<Ctx, AllocError>
         requires key { IsKey key }
-        requires moves { IfSome moves (λ n. n ≡ key.degree) }
+        requires moves { IfSome moves (λ scope. scope ≡ scope_of key) }
         ensures { IfOk result (λ c. c ≡ key) }
     {
         let all = all_of(alloc, key.degree)?;
@@ -106,7 +106,7 @@ impl Ctx {
 
     /// The table by which ladder vectors are made over ranks, where it is there. It takes no memory.
     pub(crate) fn moves(&self) -> Option<&Moves>
-        ensures { IfSome result (λ moves. moves.now ≡ self.now.degree) }
+        ensures { IfSome result (λ moves. moves.now ≡ scope_of self.now) }
     {
         self.moves.as_ref()
     }

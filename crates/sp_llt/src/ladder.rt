@@ -2,6 +2,7 @@
 ghost use Rattle.std.specs.Prelude.{◌≡◌, ◌<◌, ◌≤◌, length, IfOk, OnOk, IsErrOf};
 ghost use Rattle.sp_defs.specs.Ladder.{ladder_weight};
 ghost use Rattle.sp_llt.specs.Place.{label, labels, IsKey};
+ghost use Rattle.sp_llt.specs.Places.{scope_of};
 ghost use Rattle.sp_llt.specs.Reached.{ladder_tally};
 
 use crate::Ctx;
@@ -28,7 +29,7 @@ pub(crate) fn ladder_slots(alloc: Global, ctx: &Ctx, k: usize) -> Result<Slots, 
 
 // It is made over ranks, by a table of moves.
 fn by_moves(alloc: Global, ctx: &Ctx, moves: &Moves, k: usize) -> Result<Slots, PowerFault>
-    requires moves { moves.now ≡ ctx.now.degree }
+    requires moves { moves.now ≡ scope_of ctx.now }
     requires rank { k < length (labels ctx.now) }
     ensures tally { IfOk result (λ slots. slots ≡ ladder_tally ctx.now.e (label ctx.now k)) }
     ensures fits { OnOk result (ladder_weight ctx.now.e (label ctx.now k) ≤ ctx.now.limit) }

@@ -1,10 +1,10 @@
 -- The place of a partition with one node more in the list of the next degree.
-use Rattle.std.proofs.Common.{◌≡◌, ℕ, ◌+◌, ◌-◌, ◌<◌, true, List, ◌++◌, ◌∷◌, [], length, get_or, inl, inr, arith}
+use Rattle.std.proofs.Common.{◌≡◌, ℕ, ◌+◌, ◌-◌, ◌<◌, true, List, ◌++◌, ◌∷◌, [], length, get_or, set, inl, inr, arith}
 use Rattle.std.proofs.Common.{Contains, subst, sym, ap, ◌∙◌}
 use Rattle.std.specs.List.{AllByRecursion}
 use Rattle.std.proofs.Math.ListN.{get_or-append}
-use Rattle.std.proofs.lemmas.Bool.{cases_lt}
-use Rattle.std.proofs.lemmas.List.{get_or_push}
+use Rattle.std.proofs.lemmas.Bool.{cases_eq, cases_lt}
+use Rattle.std.proofs.lemmas.List.{get_or_push, get_or-set_same, get_or-set_other}
 use Rattle.sp_defs.specs.Node.{is_addable}
 use Rattle.sp_defs.specs.Partition.{IsPartition, IsPartitionOf, degree, part, partitions}
 use Rattle.sp_defs.specs.Signature.{grow}
@@ -38,4 +38,15 @@ places_more P xs x n count each here k d lt = elim (cases_lt k n) [
       let last : k ≡ n = omega arith in
       subst (λ i. P i (get_or (xs ++ x ∷ []) i d)) (sym last)
       (subst (P n) (sym (get_or_push xs x d n count)) here)
+]
+
+-- It holds when the place n is set to one of which it holds.
+pub places_set : {X : Type 0} (P : ℕ → X → Type 0) (xs : List X) (x : X) (n : ℕ) → n < length xs →
+    ((k : ℕ) (d : X) → k < n → P k (get_or xs k d)) → P n x →
+    (k : ℕ) (d : X) → k < n + 1 → P k (get_or (set xs n x) k d)
+places_set P xs x n there each here k d lt = elim (cases_eq k n) [
+  | inl same ↦
+      subst (λ i. P i (get_or (set xs n x) i d)) (sym same)
+      (subst (P n) (sym (get_or-set_same xs n x d there)) here)
+  | inr other ↦ subst (P k) (sym (get_or-set_other xs n k x d other)) (each k d (omega (arith, other)))
 ]

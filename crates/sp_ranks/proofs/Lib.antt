@@ -4,5 +4,7 @@ pub mod Overs
 pub mod Walks
 pub mod Sources
 pub mod Gains
+pub mod Signatures
+pub mod CornerLists
 pub mod RankRuns
 pub mod RankSums

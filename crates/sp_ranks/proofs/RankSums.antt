@@ -1,7 +1,7 @@
 -- Moves in order of the ranks, summed run by run: what each loop keeps.
 use Rattle.std.proofs.Common.{◌≡◌, ◌≢◌, ℕ, ◌+◌, ◌^◌, ◌<◌, ◌≤◌, Bool, true, false, cond, nat_eq, nat_lt, List, []}
 use Rattle.std.proofs.Common.{◌∷◌, ◌++◌, take, length, get_or, refl, sym, ◌∙◌, ap, ap₂, subst, arith, sum_by}
-use Rattle.std.proofs.Common.{append-nil, true≢false, pos, w32, ◌↔◌, IsTrue}
+use Rattle.std.proofs.Common.{append-nil, true≢false, ℤ, pos, w32, ◌↔◌, IsTrue}
 use mir.Val.{to_z, of_z}
 use Rattle.std.proofs.lemmas.Bool.{eqb-false}
 use Rattle.std.proofs.lemmas.List.{take_all, length-map, get_or-map, get_or_default}
@@ -62,18 +62,23 @@ share_within n es t b =
     product_near t.exponent ((t.exponent, pos 1) ∷ []) (polynomial_at es t.source) refl b.near b.powers
 
 -- So it has as the code reads them.
-pub terms_within : (n : ℕ) (es : Entries) (t : Arrival) (terms : Laurent) → IsBroughtBy n es t →
-    terms ≡ polynomial_at es t.source →
-    ProductWithin power_limit ((to_z w32 (of_z w32 t.exponent), pos 1) ∷ []) terms
-terms_within n es t terms b is =
-    subst (λ x. ProductWithin power_limit ((x, pos 1) ∷ []) terms) (sym (read_exponent t.exponent b.near))
-    (subst (ProductWithin power_limit ((t.exponent, pos 1) ∷ [])) (sym is) (share_within n es t b))
+-- An exponent, as the code hands it on.
+widened : (es : Entries) (n : ℕ) (t : Arrival) (x : ℤ) → IsBroughtBy n es t → x ≡ t.exponent →
+    to_z w32 (of_z w32 x) ≡ t.exponent
+widened es n t x b same = ap (λ y. to_z w32 (of_z w32 y)) same ∙ read_exponent t.exponent b.near
 
-pub adds_share : (n : ℕ) (es : Entries) (t : Arrival) (terms sum new : Laurent) → IsBroughtBy n es t →
-    terms ≡ polynomial_at es t.source →
-    new ≡ plus sum (times ((to_z w32 (of_z w32 t.exponent), pos 1) ∷ []) terms) → new ≡ plus sum (share_at es t)
-adds_share n es t terms sum new b is added =
-    added ∙ ap₂ (λ x p. plus sum (times ((x, pos 1) ∷ []) p)) (read_exponent t.exponent b.near) is
+pub terms_within : (n : ℕ) (es : Entries) (t : Arrival) (terms : Laurent) (x : ℤ) → IsBroughtBy n es t →
+    x ≡ t.exponent → terms ≡ polynomial_at es t.source →
+    ProductWithin power_limit (power (to_z w32 (of_z w32 x))) terms
+terms_within n es t terms x b same is =
+    subst (λ y. ProductWithin power_limit (power y) terms) (sym (widened es n t x b same))
+    (subst (ProductWithin power_limit (power t.exponent)) (sym is) (share_within n es t b))
+
+pub adds_share : (n : ℕ) (es : Entries) (t : Arrival) (terms sum new : Laurent) (x : ℤ) → IsBroughtBy n es t →
+    x ≡ t.exponent → terms ≡ polynomial_at es t.source →
+    new ≡ plus sum (times (power (to_z w32 (of_z w32 x))) terms) → new ≡ plus sum (share_at es t)
+adds_share n es t terms sum new x b same is added =
+    added ∙ ap₂ (λ y p. plus sum (times (power y) p)) (widened es n t x b same) is
 
 module _ (es : Entries) (run : List Arrival) (count : ℕ) (sum : Laurent) (h : RunSum es run count sum) where
   pub sum_laurent : IsLaurent sum

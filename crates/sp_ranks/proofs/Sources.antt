@@ -1,5 +1,5 @@
 -- The loop over the places of a vector: what is found, and what is still to come.
-use Rattle.std.proofs.Common.{◌≡◌, ℕ, ◌+◌, ◌<◌, ◌≤◌, List, [], ◌++◌, map, length, drop, get_or, sym, ◌∙◌, ap, ap₂}
+use Rattle.std.proofs.Common.{◌≡◌, ℕ, ◌+◌, ◌<◌, ◌≤◌, List, [], ◌++◌, map, length, drop, get_or, sym, ◌∙◌, ap}
 use Rattle.std.proofs.Common.{subst, pos}
 use Rattle.std.proofs.lemmas.List.{get_or_default}
 use Rattle.sp_defs.specs.Partition.{partitions}
@@ -19,13 +19,11 @@ use Rattle.sp_ranks.specs.declared.walk.Way.{Way}
 use Rattle.sp_ranks.proofs.Overs.{partition_there}
 
 -- The marks of the partition of a rank are its signature.
-pub marks_at : (e i n rank place : ℕ) (all : List (List ℕ)) (marks found : List Mark) (p : List ℕ) →
-    rank < length (partitions n) → all ≡ partitions n → place ≡ rank → p ≡ get_or all place p →
-    map mark_of found ≡ signature e i p → marks ≡ found → map mark_of marks ≡ signature e i (partition_at n rank)
-marks_at e i n rank place all marks found p there list same_place at is same =
-    ap (map mark_of) same ∙ is
-    ∙ ap (signature e i)
-    (at ∙ ap₂ (λ l k. get_or l k p) list same_place ∙ get_or_default (partitions n) rank p [] there)
+pub marks_at : (e t i n rank : ℕ) (marks found : List Mark) → t ≡ e →
+    map mark_of found ≡ signature t i (partition_at n rank) → marks ≡ found →
+    map mark_of marks ≡ signature e i (partition_at n rank)
+marks_at e t i n rank marks found same_e is same =
+    ap (map mark_of) same ∙ is ∙ ap (λ k. signature k i (partition_at n rank)) same_e
 
 -- Down the signature of a partition each node can be added in its turn.
 pub grows_at : (e i n rank : ℕ) (marks : List Mark) → 2 ≤ e → rank < length (partitions n) →

@@ -1,18 +1,20 @@
 -- One mark down a signature, over ranks: what is found is found by the moves of partitions.
 use Rattle.std.proofs.Common.{◌≡◌, ◌≢◌, ℕ, ◌+◌, ◌-◌, ◌<◌, ◌≤◌, List, [], ◌∷◌, ◌++◌, map, length, sym, ◌∙◌, ap, ap₂}
-use Rattle.std.proofs.Common.{subst, arith, refl, ◌*◌, ℤ, pos, ◌+ℤ◌, ◌-ℤ◌, w32}
+use Rattle.std.proofs.Common.{subst, arith, refl, zero, suc, ◌^◌, ◌*◌, ℤ, pos, ◌+ℤ◌, ◌-ℤ◌, lit<}
+use Rattle.std.specs.Int.{w16}
 use Rattle.std.specs.Int.RustNames.{unsigned_abs}
-use Rattle.std.proofs.lemmas.List.{map-append}
+use Rattle.std.proofs.lemmas.Int.{to_z-of_z, fits_signed_from_abs}
+use Rattle.std.proofs.lemmas.List.{length-map, map-append}
 use Rattle.sp_defs.specs.Partition.{partitions}
-use Rattle.sp_defs.specs.Signature.{grow}
+use Rattle.sp_defs.specs.Signature.{grow, Addable as A, Removable as R, Mark as Marked}
 use Rattle.sp_lists.proofs.Elements.{all_append}
 use Rattle.sp_nodes.specs.declared.corners.Corner.TheVariants.{Addable, Removable}
 use Rattle.sp_nodes.specs.declared.corners.Mark.{Mark}
 use Rattle.sp_nodes.specs.Marks.{mark_of}
 use Rattle.sp_power_law.specs.Walk.{moves_through}
 use Rattle.sp_power.specs.Arrivals.{arrive_from}
-use Rattle.sp_power.proofs.Descent.{first_of, below, moves-none_left, moves-no_marks, moves-addable, moves-removable}
-use Rattle.sp_power.proofs.Descent.{same_moves, arrivals-none, arrivals-both, read_exponent, exponent_room}
+use Rattle.sp_power.proofs.Descent.{first_of, below, moves-none_left, moves-addable, moves-removable}
+use Rattle.sp_power.proofs.Descent.{same_moves, arrivals-none, arrivals-both, exponent_room}
 use mir.Val.{to_z, of_z}
 use Rattle.sp_ranks.specs.Ranks.{partition_at}
 use Rattle.sp_ranks.specs.Arrivals.{arrival_at, arrivals_at, found_at, AreThere}
@@ -25,11 +27,18 @@ none_more n left none = omega arith
 one_more : (n left : ℕ) → left ≢ 0 → n + 1 + (left - 1) ≡ n + left
 one_more n left some = omega arith
 
+-- An exponent has room in the type of the code.
+pub read_exponent : (x : ℤ) → unsigned_abs x ≤ 2000 → to_z w16 (of_z w16 x) ≡ x
+read_exponent x small = to_z-of_z w16 x (fits_signed_from_abs w16 x (omega (arith, small, most)))
+  where
+    most : 2000 < 2 ^ 15
+    most = lit< tt
+
 -- An exponent and a difference in the type of the code sum up as they do.
 pub read_sum : (x d : ℤ) (left n : ℕ) → unsigned_abs d + n ≤ 33 → unsigned_abs x + left * 33 ≤ 2000 → left ≢ 0 →
-    to_z w32 (of_z w32 (to_z w32 (of_z w32 x) +ℤ to_z w32 (of_z w32 d))) ≡ x +ℤ d
+    to_z w16 (of_z w16 (to_z w16 (of_z w16 x) +ℤ to_z w16 (of_z w16 d))) ≡ x +ℤ d
 read_sum x d left n near small some =
-    ap₂ (λ a b. to_z w32 (of_z w32 (a +ℤ b))) (read_exponent x (omega (arith, small)))
+    ap₂ (λ a b. to_z w16 (of_z w16 (a +ℤ b))) (read_exponent x (omega (arith, small)))
     (read_exponent d (omega (arith, near)))
     ∙ read_exponent (x +ℤ d) (omega (arith, exponent_room x d (x +ℤ d) left n refl near small some))
 
@@ -56,12 +65,22 @@ there-way n left t old new none is there before =
     (all_append (λ t. t.rank < length (partitions (n + left))) old (t ∷ []) before
     (subst (λ k. t.rank < length (partitions k)) (none_more n left none) there, tt))
 
--- Where no mark is left, nothing is found.
-pub found-nothing : (n source left : ℕ) (marks : List Mark) (way : Way) (old : List Arrival) → length marks < 1 →
-    left ≢ 0 → arrivals_at (n + left) old ≡ arrivals_at (n + left) old ++ found_at n source marks left way
-found-nothing n source left marks way old short some =
+-- From fewer marks than nodes are to be chosen there is no move.
+too_few : (ms : List Marked) (m : ℕ) (p : List ℕ) (d x : ℤ) → length ms < m → moves_through ms m p d x ≡ []
+unfolding moves_through
+too_few ms zero p d x short = absurd (omega arith)
+too_few [] (suc m) p d x short = refl
+too_few ((A, y) ∷ ms) (suc m) p d x short =
+    ap₂ (λ a b. a ++ b) (too_few ms m _ d (x +ℤ d) (omega arith)) (too_few ms (suc m) p (d +ℤ pos 1) x (omega arith))
+too_few ((R, y) ∷ ms) (suc m) p d x short = too_few ms (suc m) p (d -ℤ pos 1) x (omega arith)
+
+-- There nothing is found.
+pub found-nothing : (n source left : ℕ) (marks : List Mark) (way : Way) (old : List Arrival) → length marks < left →
+    arrivals_at (n + left) old ≡ arrivals_at (n + left) old ++ found_at n source marks left way
+found-nothing n source left marks way old short =
     arrivals-none (arrivals_at (n + left) old) source _
-    (moves-no_marks marks left (partition_at n way.rank) way.difference way.exponent short some)
+    (too_few (map mark_of marks) left (partition_at n way.rank) way.difference way.exponent
+    (omega (arith, length-map marks mark_of, short)))
 
 -- ---- at an addable node: those with it, and then those without it
 

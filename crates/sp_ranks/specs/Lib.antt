@@ -1,4 +1,5 @@
 pub mod Ranks
+pub mod Corners
 pub mod Moves
 pub mod Polynomials
 pub mod Vectors

@@ -29,7 +29,8 @@ pub fn induce(
     requires e_least { 2 ≤ e }
     requires e_most { e ≤ 64 }
     requires below { i < e }
-    requires room { v.now.degree + m ≤ moves.now }
+    requires residues { moves.now.e ≡ e }
+    requires room { v.now.degree + m ≤ moves.now.degree }
     requires powers { AllWithin half_power_limit v.now.entries }
     requires least { 1 ≤ limit }
     requires most { limit < 2 ^ 127 }
@@ -57,7 +58,8 @@ fn sorted_moves(
     requires e_least { 2 ≤ e }
     requires e_most { e ≤ 64 }
     requires below { i < e }
-    requires room { v.now.degree + m ≤ moves.now }
+    requires residues { moves.now.e ≡ e }
+    requires room { v.now.degree + m ≤ moves.now.degree }
     ensures { IfOk result (λ found. AreSortedByRank e i m v.now found.items) }
 {
     let _most = moves.degree();

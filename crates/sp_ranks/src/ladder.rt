@@ -23,7 +23,8 @@ pub fn ladder_vector(
 ) -> Result<RankVector, PowerFault>
     requires e_least { 2 ≤ e }
     requires e_most { e ≤ 64 }
-    requires degree { degree_of mu.now ≤ moves.now }
+    requires residues { moves.now.e ≡ e }
+    requires degree { degree_of mu.now ≤ moves.now.degree }
     requires regular { is_regular e mu.now ≡ true }
     requires least { 1 ≤ limit }
     requires most { limit < 2 ^ 127 }

@@ -4,6 +4,7 @@
 //! with no partition moved and none compared.
 #![tactic(auto)]
 
+mod corners;
 mod induction;
 mod ladder;
 mod moves;

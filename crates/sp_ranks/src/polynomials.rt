@@ -1,5 +1,5 @@
 // Polynomials with all their terms in one list.
-ghost use Rattle.std.specs.Prelude.{◌≡◌, ◌<◌, ◌++◌, [], ◌∷◌, length, get_or, OnOk};
+ghost use Rattle.std.specs.Prelude.{◌≡◌, ◌<◌, ◌++◌, [], ◌∷◌, length, get_or, IfOk, OnOk};
 ghost use Rattle.sp_laurent.specs.Held.{IsHeld};
 ghost use Rattle.sp_ranks.specs.Polynomials.{begin_of};
 
@@ -36,6 +36,16 @@ impl Polynomials {
             terms: Vec::new(alloc),
             ends: Vec::new(alloc),
         }
+    }
+
+    /// No polynomial, with memory for so many of one term each.
+    pub(crate) fn with_capacity(alloc: Global, count: usize) -> Result<Polynomials, AllocError>
+        ensures { IfOk result (λ polynomials. polynomials ≡ []) }
+    {
+        Ok(Polynomials {
+            terms: Vec::with_capacity(alloc, count)?,
+            ends: Vec::with_capacity(alloc, count)?,
+        })
     }
 
     /// How many they are. It takes no memory.

@@ -12,7 +12,7 @@ ghost use Rattle.sp_ranks.specs.Arrivals.{arrivals_at, share_at, size_at, IsBrou
 
 use crate::walk::Arrival;
 use crate::{Polynomials, RankVector};
-use sp_laurent::{Term, add_multiple, size_of};
+use sp_laurent::{Term, add_shifted, size_of};
 use sp_partition::DEGREE_LIMIT;
 use sp_power::PowerFault;
 use std::alloc::{AllocError, Global};
@@ -37,8 +37,8 @@ pub(crate) fn sums(
     ensures too_large { IsErrOf result PowerFault.TooLarge
         → limit < greatest (sizes_of v.now.entries (runs (arrivals_at n arrivals.now))) }
 {
-    let mut ranks = Vec::new(alloc);
-    let mut polynomials = Polynomials::new(alloc);
+    let mut ranks = Vec::with_capacity(alloc, arrivals.len())?;
+    let mut polynomials = Polynomials::with_capacity(alloc, arrivals.len())?;
     let mut sum = Vec::new(alloc);
     let mut rest = arrivals;
     while let [first, ..] = rest {
@@ -110,7 +110,11 @@ fn add_run(sum: &mut Vec<Term>, v: &RankVector, run: &[Arrival]) -> Result<(), A
     ensures held { OnOk result (IsHeld sum.new.items) }
 {
     for arrival in run {
-        add_multiple(sum, (arrival.exponent, 1), v.terms(arrival.source as usize))?;
+        add_shifted(
+            sum,
+            i32::from(arrival.exponent),
+            v.terms(arrival.source as usize),
+        )?;
     }
     Ok(())
 }

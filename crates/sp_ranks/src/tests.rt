@@ -3,7 +3,7 @@ ghost use Rattle.std.specs.Prelude.{◌≤◌, ◌<◌, ◌^◌};
 
 use crate::{Moves, ladder_vector};
 use sp_laurent::Term;
-use sp_partition::{DEGREE_LIMIT, Partition, rank};
+use sp_partition::{DEGREE_LIMIT, Partition, all_of, rank};
 use sp_power::PowerFault;
 use std::alloc::{AllocError, Global};
 use std::test::Fail;
@@ -26,7 +26,7 @@ fn ranked_terms(
     if !mu.is_regular(e) || mu.degree() > DEGREE_LIMIT {
         return Ok(terms);
     }
-    let moves = Moves::open(alloc, mu.degree())?;
+    let moves = Moves::open(alloc, e, mu.degree())?;
     let vector = ladder_vector(alloc, &moves, e, &mu, limit)?;
     for place in 0..vector.count() {
         push_terms(&mut terms, vector.rank(place), vector.terms(place))?;
@@ -59,38 +59,72 @@ fn ladder_vectors_and_limits(rt: HostRuntime) -> Result<(), Fail> {
 }
 
 /// The rank that the partition of these parts, one of n, grows to in this row. None where it doesn't grow there.
-fn grown_rank(moves: &Moves, n: u8, parts: &[u8], row: u8) -> Option<u16>
-    requires { n < moves.now }
+fn grown_rank(
+    alloc: Global,
+    moves: &Moves,
+    n: u8,
+    parts: &[u8],
+    row: u8,
+) -> Result<Option<u16>, AllocError>
+    requires small { n < DEGREE_LIMIT }
+    requires degree { n < moves.now.degree }
 {
+    let all = all_of(alloc, n)?;
     let p = Partition::from_parts(parts).unwrap_or(Partition::empty());
-    let place = rank(moves.partitions(n), &p)?;
-    if !p.can_grow(row) {
-        return None;
+    match rank(&all, &p) {
+        Some(place) if p.can_grow(row) => Ok(Some(moves.grown(n, place as u16, row))),
+        _ => Ok(None),
     }
-    Some(moves.grown(n, place as u16, row))
 }
 
 #[test]
 fn ranks_of_grown_partitions(rt: HostRuntime) -> Result<(), Fail> {
     // of 3: [1^3], [2,1], [3]; of 4: [1^4], [2,1^2], [2^2], [3,1], [4]
-    let moves = Moves::open(rt.alloc(), 4)?;
-    assert_eq!(rt; moves.partitions(4).len(), 5);
-    assert_eq!(rt; grown_rank(&moves, 3, &[2, 1], 1), Some(3));
-    assert_eq!(rt; grown_rank(&moves, 3, &[2, 1], 2), Some(2));
-    assert_eq!(rt; grown_rank(&moves, 3, &[2, 1], 3), Some(1));
-    assert_eq!(rt; grown_rank(&moves, 3, &[3], 1), Some(4));
-    assert_eq!(rt; grown_rank(&moves, 0, &[], 1), Some(0));
+    let alloc = rt.alloc();
+    let moves = Moves::open(alloc, 2, 4)?;
+    assert_eq!(rt; grown_rank(alloc, &moves, 3, &[2, 1], 1)?, Some(3));
+    assert_eq!(rt; grown_rank(alloc, &moves, 3, &[2, 1], 2)?, Some(2));
+    assert_eq!(rt; grown_rank(alloc, &moves, 3, &[2, 1], 3)?, Some(1));
+    assert_eq!(rt; grown_rank(alloc, &moves, 3, &[3], 1)?, Some(4));
+    assert_eq!(rt; grown_rank(alloc, &moves, 0, &[], 1)?, Some(0));
     Ok(())
 }
 
 #[test]
 fn first_and_last_ranks_and_rows_that_do_not_grow(rt: HostRuntime) -> Result<(), Fail> {
     // There are 77 partitions of 12.
-    let moves = Moves::open(rt.alloc(), 12)?;
-    assert_eq!(rt; grown_rank(&moves, 11, &[11], 1), Some(76));
-    assert_eq!(rt; grown_rank(&moves, 11, &[1; 11], 12), Some(0));
-    assert_eq!(rt; grown_rank(&moves, 11, &[1; 11], 11), None);
-    assert_eq!(rt; grown_rank(&moves, 4, &[2, 2], 2), None);
-    assert_eq!(rt; grown_rank(&moves, 4, &[2, 2], 4), None);
+    let alloc = rt.alloc();
+    let moves = Moves::open(alloc, 2, 12)?;
+    assert_eq!(rt; grown_rank(alloc, &moves, 11, &[11], 1)?, Some(76));
+    assert_eq!(rt; grown_rank(alloc, &moves, 11, &[1; 11], 12)?, Some(0));
+    assert_eq!(rt; grown_rank(alloc, &moves, 11, &[1; 11], 11)?, None);
+    assert_eq!(rt; grown_rank(alloc, &moves, 4, &[2, 2], 2)?, None);
+    assert_eq!(rt; grown_rank(alloc, &moves, 4, &[2, 2], 4)?, None);
+    Ok(())
+}
+
+/// How many addable and removable nodes of residue `i` the partition of these parts, one of n, has.
+fn mark_count(alloc: Global, moves: &Moves, n: u8, parts: &[u8], i: u8) -> Result<usize, AllocError>
+    requires small { n ≤ DEGREE_LIMIT }
+    requires degree { n ≤ moves.now.degree }
+{
+    let all = all_of(alloc, n)?;
+    let p = Partition::from_parts(parts).unwrap_or(Partition::empty());
+    match rank(&all, &p) {
+        Some(place) => Ok(moves.marks(n, place as u16, i).len()),
+        None => Ok(0),
+    }
+}
+
+#[test]
+fn signatures_of_two_rows(rt: HostRuntime) -> Result<(), Fail> {
+    // [3,1] at e = 2: of residue 0 the removable (1,3), and the addable (2,2) and (3,1); of residue 1 the addable (1,4)
+    // and the removable (2,1).
+    let alloc = rt.alloc();
+    let moves = Moves::open(alloc, 2, 4)?;
+    assert_eq!(rt; mark_count(alloc, &moves, 4, &[3, 1], 0)?, 3);
+    assert_eq!(rt; mark_count(alloc, &moves, 4, &[3, 1], 1)?, 2);
+    assert_eq!(rt; mark_count(alloc, &moves, 0, &[], 0)?, 1);
+    assert_eq!(rt; mark_count(alloc, &moves, 0, &[], 1)?, 0);
     Ok(())
 }

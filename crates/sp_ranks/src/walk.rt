@@ -10,7 +10,7 @@ ghost use Rattle.sp_ranks.specs.Ranks.{partition_at};
 ghost use Rattle.sp_ranks.specs.Arrivals.{arrivals_at, found_at, AreThere};
 
 use crate::{Moves, RankVector};
-use sp_nodes::{Corner, Mark, marks};
+use sp_nodes::{Corner, Mark};
 use sp_partition::DEGREE_LIMIT;
 use std::alloc::{AllocError, Global};
 
@@ -19,7 +19,7 @@ use std::alloc::{AllocError, Global};
 pub(crate) struct Arrival {
     pub(crate) rank: u16,
     pub(crate) source: u32,
-    pub(crate) exponent: i32,
+    pub(crate) exponent: i16,
 }
 
 // A move on its way down a signature.
@@ -28,9 +28,9 @@ pub(crate) struct Way {
     // of the partition with the nodes chosen so far
     pub(crate) rank: u16,
     // the addable nodes passed and not chosen, minus the removable nodes passed
-    pub(crate) difference: i32,
+    pub(crate) difference: i16,
     // the differences at the nodes chosen
-    pub(crate) exponent: i32,
+    pub(crate) exponent: i16,
 }
 
 /// All moves of m nodes of residue `i` from the partitions of the vector.
@@ -45,18 +45,19 @@ pub(crate) fn all_moves(
     requires e_least { 2 ≤ e }
     requires e_most { e ≤ 64 }
     requires below { i < e }
-    requires room { v.now.degree + m ≤ moves.now }
+    requires residues { moves.now.e ≡ e }
+    requires room { v.now.degree + m ≤ moves.now.degree }
     ensures found { IfOk result
         (λ found. arrivals_at (v.now.degree + m) found.items ≡ arrivals e i m 0 v.now.entries) }
     ensures there { IfOk result
         (λ found. AllByRecursion (λ t. t.rank < length (partitions (v.now.degree + m))) found.items) }
 {
+    let _most = moves.degree();
     let n = v.degree();
-    let all = moves.partitions(n);
     let mut found = Vec::new(alloc);
     for source in 0..v.count() {
         let rank = v.rank(source);
-        let marks = marks(e, i, &all[usize::from(rank)]);
+        let marks = moves.marks(n, rank, i);
         let way = Way {
             rank,
             difference: 0,
@@ -79,8 +80,8 @@ fn push_moves(
 ) -> Result<(), AllocError>
     requires rank { way.rank < length (partitions n) }
     requires grows { CanGrow (map mark_of marks.now) (partition_at n way.rank) }
-    requires room { n + left ≤ moves.now }
-    requires small_degree { moves.now ≤ DEGREE_LIMIT }
+    requires room { n + left ≤ moves.now.degree }
+    requires small_degree { moves.now.degree ≤ DEGREE_LIMIT }
     requires near { unsigned_abs way.difference + length marks.now ≤ 33 }
     requires small { unsigned_abs way.exponent + left * 33 ≤ 2000 }
     ensures found { OnOk result (arrivals_at (n + left) found.new.items ≡
@@ -98,6 +99,9 @@ fn push_moves(
     let [first, below @ ..] = marks else {
         return Ok(());
     };
+    if marks.len() < usize::from(left) {
+        return Ok(());
+    }
     match first.corner {
         Corner::Addable => {
             let chosen = Way {
@@ -114,7 +118,7 @@ fn push_moves(
 
 impl Way {
     // A node is passed, which counts so much.
-    fn passed(self, step: i32) -> Way
+    fn passed(self, step: i16) -> Way
         requires near { unsigned_abs self.difference ≤ 33 }
         requires step { unsigned_abs step ≤ 1 }
         ensures { result ≡ record { rank = self.rank; difference = self.difference +ℤ step; exponent = self.exponent } }

@@ -6,15 +6,15 @@ use Rattle.sp_laurent.specs.Held.{IsHeld, power_limit}
 use Rattle.sp_laurent.proofs.Held.{held_sum}
 use Rattle.sp_laurent.proofs.Laurent.plus_shifted_within.Goals as goal
 
-pub add_multiple-requires-clause-within : goal.add_multiple-requires-clause-within
-add_multiple-requires-clause-within c =
+pub add_shifted-requires-clause-within : goal.add_shifted-requires-clause-within
+add_shifted-requires-clause-within c =
     subst₂ (λ k q. ProductWithin power_limit (power k) q) (sym (to_z-of_z c.ranges.power))
     (sym (c.deref.ensures.value ∙ c.other.view_is)) c.requires.within
 
 pub invariant_of-result : goal.invariant_of-result
 invariant_of-result c =
     let k = c.args.power in
-    let sum = c.in_ok-add_multiple.ensures ∙ ap₂ plus c.self.view_is
+    let sum = c.in_ok-add_shifted.ensures ∙ ap₂ plus c.self.view_is
     (ap₂ (λ j q. times (power j) q) (to_z-of_z c.ranges.power) (c.deref.ensures.value ∙ c.other.view_is)) in
     let fits : size c.args.self + size (power k) * size c.args.other.now < 2 ^ 127 =
     omega (
@@ -29,7 +29,7 @@ invariant_of-result c =
 pub returns-clause-powers : goal.returns-clause-powers
 returns-clause-powers c d old product =
     let k = c.args.power in
-    let sum = c.in_ok-add_multiple.ensures ∙ ap₂ plus c.self.view_is
+    let sum = c.in_ok-add_shifted.ensures ∙ ap₂ plus c.self.view_is
     (ap₂ (λ j q. times (power j) q) (to_z-of_z c.ranges.power) (c.deref.ensures.value ∙ c.other.view_is)) in
     subst (PowersWithin d) (sym sum)
     (within_plus d c.args.self (times (power k) c.args.other.now) old

@@ -9,7 +9,7 @@ use Rattle.sp_laurent.proofs.Placing.{parted_gone, parted_none, parted_new, part
 use Rattle.sp_laurent.proofs.Placing.{parted_inside, parted_behind, parted_low, parted_low_next}
 use Rattle.sp_laurent.proofs.Placing.{from_place_laurent, from_place_high, from_place_parted, from_place_small}
 use Rattle.sp_laurent.proofs.products.add_at.Goals as goal
-use Rattle.sp_laurent.proofs.products.add_at.Goals.{then-there-eq0+in_ok-insert, else-there-eq0}
+use Rattle.sp_laurent.proofs.products.add_at.Goals.{then-there-eq0+in_ok-insert_at, else-there-eq0}
 
 pub split_first-there-requires-clause-laurent : goal.split_first-there-requires-clause-laurent
 split_first-there-requires-clause-laurent c =
@@ -88,8 +88,8 @@ returns c =
     let sum = add_back w128 c.args.coefficient there c.ranges.coefficient fits sum_fits in
     let added : c.if-there-eq0.terms.items ≡ add_term c.args.power c.args.coefficient c.args.terms.now.items =
     elim c.if-there-eq0.branch [
-      | then-there-eq0+in_ok-insert w ↦
-          ap (λ v. v.items) w.terms-is ∙ w.in_ok-insert.ensures.items
+      | then-there-eq0+in_ok-insert_at w ↦
+          ap (λ v. v.items) w.terms-is ∙ w.in_ok-insert_at.ensures
           ∙ ap₂ (λ k a. insert c.args.terms.now.items c.args.place (k, a)) back sum
           ∙ parted_new _ _ _ _ c.args.coefficient there parted some (back_nought there fits w.if-there-eq0.true)
       | else-there-eq0 w ↦

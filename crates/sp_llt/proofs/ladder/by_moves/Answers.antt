@@ -5,6 +5,7 @@ use Rattle.sp_defs.specs.Ladder.{ladder_weight}
 use Rattle.sp_core.specs.declared.piece.Key.{Key}
 use Rattle.sp_fock_law.specs.Tally.{tally_of}
 use Rattle.sp_power.specs.declared.fault.PowerFault.TheVariants.{TooLarge}
+use Rattle.sp_ranks.specs.Moves.{Scope}
 use Rattle.sp_llt.specs.Place.{IsPlace, place}
 use Rattle.sp_llt.specs.Reached.{ladder_tally}
 use Rattle.sp_llt.proofs.Labels.{label_facts, place_of, read_label}
@@ -19,13 +20,21 @@ ladder_vector-requires-clause-regular c =
     ap₂ (λ (key : Key) mu. is_regular key.e mu) c.key-key.ensures.value is
     ∙ (label_facts c.args.ctx.now c.args.k p).regular.regular
 
+pub ladder_vector-requires-clause-residues : goal.ladder_vector-requires-clause-residues
+ladder_vector-requires-clause-residues c =
+    ap (λ (scope : Scope). scope.e) c.requires.moves ∙ sym (ap (λ (key : Key). key.e) c.key-key.ensures.value)
+
 pub ladder_vector-requires-clause-degree : goal.ladder_vector-requires-clause-degree
 ladder_vector-requires-clause-degree c =
     let is = read_label c.args.ctx.now c.args.k c.regulars.result.now c.index-regulars-k.result c.regulars.ensures.value
     c.requires.rank c.index-regulars-k.is in
     let p : IsPlace (place c.args.ctx.now c.args.k) = place_of c.args.ctx.now c.args.k c.regulars.ensures.held
     c.requires.rank in
-    omega (arith, ap degree is ∙ (label_facts c.args.ctx.now c.args.k p).total, c.requires.moves)
+    omega (
+      arith,
+      ap degree is ∙ (label_facts c.args.ctx.now c.args.k p).total,
+      ap (λ (scope : Scope). scope.degree) c.requires.moves,
+    )
 
 pub from_ranks-requires : goal.from_ranks-requires
 from_ranks-requires c =

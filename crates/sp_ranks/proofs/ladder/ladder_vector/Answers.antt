@@ -13,7 +13,7 @@ induce-requires-clause-below c = (can_step _ _ _ _ _ _ c.loop-step.invariant _ c
 
 pub induce-requires-clause-room : goal.induce-requires-clause-room
 induce-requires-clause-room c =
-    room_within _ _ _ _ _ _ c.loop-step.invariant c.args.moves.now _ c.loop-step-test.true c.requires.degree
+    room_within _ _ _ _ _ _ c.loop-step.invariant c.args.moves.now.degree _ c.loop-step-test.true c.requires.degree
 
 pub induce-requires-clause-powers : goal.induce-requires-clause-powers
 induce-requires-clause-powers c = powers_small _ _ _ _ _ _ c.loop-step.invariant

@@ -1,4 +1,4 @@
-use Rattle.std.proofs.Common.{◌≡◌, ℕ, ◌+◌, ◌∷◌, [], length, get_or, ap, arith, length-append, subst, sym, ◌∙◌}
+use Rattle.std.proofs.Common.{◌≡◌, ℕ, ◌+◌, List, ◌∷◌, [], length, get_or, ap, arith, length-append, subst, sym, ◌∙◌}
 use Rattle.std.specs.Global.{Vec}
 use Rattle.sp_defs.specs.Partition.{partitions}
 use Rattle.sp_ranks.specs.Moves.{AreRows}
@@ -21,7 +21,7 @@ loop-degree-preserved c =
       count = omega (arith, ap length more, length-append old (rows ∷ []));
       each = λ k d lt.
           subst (λ tables. AreRows (partitions (k + 1)) (partitions k) (get_or tables k d).items) (sym more)
-          (places_more (λ k (table : Vec (Vec ℕ)). AreRows (partitions (k + 1)) (partitions k) table.items) old rows n
+          (places_more (λ k (table : Vec (List ℕ)). AreRows (partitions (k + 1)) (partitions k) table.items) old rows n
           c.loop-degree.invariant.count c.loop-degree.invariant.each
           (subst (λ xs. AreRows xs (partitions n) rows.items) next
           (subst (λ xs. AreRows c.deref-in-loop-degree.result.now xs rows.items) all c.in_ok-gains_of.ensures)) k d lt);

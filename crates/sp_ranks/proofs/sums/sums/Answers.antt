@@ -13,9 +13,9 @@ use Rattle.sp_ranks.proofs.sums.sums.Goals as goal
 
 pub loop-rest-init : goal.loop-rest-init
 loop-rest-init c =
-    rank_begins c.args.n c.args.v.now.entries c.args.arrivals.now c.args.limit c.new-ranks.result.items
-    c.new-polynomials.result c.new-ranks.ensures.items c.new-polynomials.ensures c.requires.degree c.requires.brought
-    c.requires.sorted
+    rank_begins c.args.n c.args.v.now.entries c.args.arrivals.now c.args.limit c.in_ok-ranks.ranks.items
+    c.in_ok-polynomials.polynomials c.in_ok-ranks.ensures.items c.in_ok-polynomials.ensures c.requires.degree
+    c.requires.brought c.requires.sorted
 
 pub split_at-requires : goal.split_at-requires
 split_at-requires c =

@@ -1,8 +1,8 @@
 -- Each step is that of `moves_through`.
 use Rattle.std.proofs.Common.{arith, length}
 use Rattle.std.proofs.lemmas.Result.{on_ok_weaker}
-use Rattle.sp_power.proofs.Descent.{read_exponent}
-use Rattle.sp_ranks.proofs.Walks.{read_sum, found-way, found-nothing, found-addable, there-addable, found-removable}
+use Rattle.sp_ranks.proofs.Walks.{read_exponent, read_sum, found-way, found-nothing, found-addable, there-addable}
+use Rattle.sp_ranks.proofs.Walks.{found-removable}
 use Rattle.sp_ranks.proofs.walk.+push_moves.Goals as goal
 
 pub returns-then-left-eq0-clause-found : goal.returns-then-left-eq0-clause-found
@@ -14,7 +14,12 @@ returns-then-left-eq0-clause-found t c =
 pub returns-in_default-clause-found : goal.returns-in_default-clause-found
 returns-in_default-clause-found t c =
     found-nothing c.args.n c.args.source c.args.left c.args.marks.now c.args.way c.args.found.now.items
-    c.in_default.len_below c.if-left-eq0.false
+    (omega (arith, c.in_default.len_below, c.if-left-eq0.false))
+
+pub returns-then-marks-from-clause-found : goal.returns-then-marks-from-clause-found
+returns-then-marks-from-clause-found t c =
+    found-nothing c.args.n c.args.source c.args.left c.args.marks.now c.args.way c.args.found.now.items
+    (omega (arith, c.from.ensures, c.if-marks-from.true))
 
 pub returns-in_ok-push_moves-in-Addable-clause-found : goal.returns-in_ok-push_moves-in-Addable-clause-found
 returns-in_ok-push_moves-in-Addable-clause-found t c =

@@ -14,9 +14,8 @@ push_moves-requires-clause-grows c =
     let rank = c.rank-rank.result in
     let there = subst (λ k. rank < length (partitions k)) (sym c.degree-n.ensures.value) c.rank-rank.ensures.there in
     grows_at c.args.e c.args.i n rank c.deref.result.now c.requires.e_least there
-    (marks_at c.args.e c.args.i n rank c.from.result c.partitions-all.result.now c.deref.result.now
-    c.marks-marks.result.items c.index-all-from.result there c.partitions-all.ensures.list c.from.ensures
-    c.index-all-from.is c.marks-marks.ensures c.deref.ensures.0)
+    (marks_at c.args.e c.args.moves.now.e c.args.i n rank c.deref.result.now c.marks-marks.result.items
+    c.requires.residues c.marks-marks.ensures c.deref.ensures.0)
 
 pub loop-source-preserved : goal.loop-source-preserved
 loop-source-preserved c =
@@ -28,9 +27,8 @@ loop-source-preserved c =
           (record { rank = rank; difference = pos 0; exponent = pos 0 }) c.loop-source.found.items
           c.push_moves.new.found.items (omega (arith, c.loop-source-test.true, c.count-source-end.ensures.value))
           (ap (λ k. partition_at k rank) c.degree-n.ensures.value ∙ c.rank-rank.ensures.partition)
-          (marks_at c.args.e c.args.i n rank c.from.result c.partitions-all.result.now c.deref.result.now
-          c.marks-marks.result.items c.index-all-from.result there c.partitions-all.ensures.list c.from.ensures
-          c.index-all-from.is c.marks-marks.ensures c.deref.ensures.0) refl refl
+          (marks_at c.args.e c.args.moves.now.e c.args.i n rank c.deref.result.now c.marks-marks.result.items
+          c.requires.residues c.marks-marks.ensures c.deref.ensures.0) refl refl
           c.in_ok-push_moves.ensures.found c.loop-source.invariant.found;
       there = c.in_ok-push_moves.ensures.there c.loop-source.invariant.there;
     }
