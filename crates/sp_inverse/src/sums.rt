@@ -65,7 +65,7 @@ fn sum_within(
     let mut sum = Laurent::zero(alloc);
     for cell in cells {
         if cell.0 < factors.len() {
-            sum = sum.plus_product_within(&cell.1, &factors[cell.0])?;
+            sum = sum.plus_product_within(&cell.1, factors[cell.0].terms())?;
         }
     }
     Ok(sum)

@@ -264,12 +264,13 @@ impl Laurent {
         if !is_within(limit, self.size(), a.size(), b.size()) {
             return Err(LaurentFault::TooLarge);
         }
-        Ok(self.plus_product_within(a, b)?)
+        Ok(self.plus_product_within(a, &b.terms)?)
     }
 
-    /// This polynomial and `a * b`, where the caller has seen that their sizes fit: nothing is checked. The sum is made
-    /// in this polynomial's own memory, which grows only where the sum has more terms.
-    pub fn plus_product_within(self, a: &Laurent, b: &Laurent) -> Result<Laurent, AllocError>
+    /// This polynomial and `a * b`, where the caller has seen that their sizes fit: nothing is checked. `b` are the terms
+    /// of a polynomial. The sum is made in this polynomial's own memory, which grows only where the sum has more terms.
+    pub fn plus_product_within(self, a: &Laurent, b: &[Term]) -> Result<Laurent, AllocError>
+        requires held { IsHeld b.now }
         requires fits { size self + size a.now * size b.now < 2 ^ 127 }
         requires within { ProductWithin power_limit a.now b.now }
         ensures ok { IfOk result (λ p. p ≡ plus self (times a.now b.now)) }
@@ -278,7 +279,7 @@ impl Laurent {
         ensures held { IfOk result (λ p. IsHeld p) }
     {
         let mut terms = self.terms;
-        add_product(&mut terms, &a.terms, &b.terms)?;
+        add_product(&mut terms, &a.terms, b)?;
         Ok(Laurent { terms })
     }
 

@@ -38,12 +38,16 @@ impl Polynomials {
         }
     }
 
-    /// No polynomial, with memory for so many of one term each.
-    pub(crate) fn with_capacity(alloc: Global, count: usize) -> Result<Polynomials, AllocError>
+    /// No polynomial, with memory for so many, with so many terms in all.
+    pub fn with_capacity(
+        alloc: Global,
+        count: usize,
+        terms: usize,
+    ) -> Result<Polynomials, AllocError>
         ensures { IfOk result (λ polynomials. polynomials ≡ []) }
     {
         Ok(Polynomials {
-            terms: Vec::with_capacity(alloc, count)?,
+            terms: Vec::with_capacity(alloc, terms)?,
             ends: Vec::with_capacity(alloc, count)?,
         })
     }

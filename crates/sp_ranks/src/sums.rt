@@ -38,7 +38,7 @@ pub(crate) fn sums(
         → limit < greatest (sizes_of v.now.entries (runs (arrivals_at n arrivals.now))) }
 {
     let mut ranks = Vec::with_capacity(alloc, arrivals.len())?;
-    let mut polynomials = Polynomials::with_capacity(alloc, arrivals.len())?;
+    let mut polynomials = Polynomials::with_capacity(alloc, arrivals.len(), arrivals.len())?;
     let mut sum = Vec::new(alloc);
     let mut rest = arrivals;
     while let [first, ..] = rest {

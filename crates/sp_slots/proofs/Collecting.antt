@@ -15,7 +15,7 @@ use Rattle.sp_fock_law.proofs.Vectors.{IsVector-entries}
 use Rattle.sp_slots.specs.declared.slot.Slot.{Slot}
 use Rattle.sp_slots.specs.Slot.{nothing, IsSlot}
 use Rattle.sp_slots.specs.Slots.{coefficient_in, AreSlots}
-use Rattle.sp_slots.specs.Indexed.{AreIndices}
+use Rattle.sp_slots.specs.Indexed.{IsIndexed}
 use Rattle.sp_slots.proofs.Reading.{slot_of-all, slot_of-at}
 
 -- The entries of a vector at some partitions.
@@ -86,6 +86,13 @@ coefficient_at n slots start k s lt is =
     ∙ get_or_default slots k s nothing lt
     ∙ sym (slot_of-at (partitions n) slots (partitions_ascend n) start.count k (omega (arith, lt, start.count))))
 
+-- the polynomials, with one more
+pub polynomials_more : (pairs : Entries) (polynomials : List Laurent) (q : List ℕ) (c d : Laurent) →
+    polynomials ≡ map (λ t. t.1) pairs → d ≡ c → polynomials ++ (d ∷ []) ≡ map (λ t. t.1) (pairs ++ ((q, c) ∷ []))
+polynomials_more pairs polynomials q c d same is =
+    ap₂ (λ ps p. ps ++ (p ∷ [])) same is
+    ∙ sym (map-append (λ (t : List ℕ × Laurent). t.1) pairs ((q, c) ∷ []))
+
 -- ---- at the end
 
 IsLaurent-nought : IsLaurent []
@@ -116,5 +123,9 @@ module _ (n : ℕ) (slots : List Slot) (start : AreSlots n slots) (pairs : Entri
           weaken (s ∷ ss) (k, ks) = (k.laurent, weaken ss ks)
 
   -- and the indices are the places of their partitions
-  pub are_indices : (v : FockVector) → v ≡ held_as n pairs → AreIndices v indices
-  are_indices v is = subst (λ u. AreIndices u indices) (sym is) (record { within = h.within; at = h.at })
+  pub are_indexed : (v : FockVector) (polynomials : List Laurent) → v ≡ held_as n pairs →
+      polynomials ≡ map (λ t. t.1) pairs → IsIndexed v indices polynomials
+  are_indexed v polynomials is same = subst (λ u. IsIndexed u indices polynomials) (sym is) (record {
+    places = record { within = h.within; at = h.at };
+    values = same;
+  })

@@ -1,35 +1,45 @@
 // A vector whose partitions know their places.
-ghost use Rattle.std.specs.Prelude.{◌≡◌};
+ghost use Rattle.std.specs.Prelude.{◌≡◌, ◌<◌, [], length, get_or};
+ghost use Rattle.sp_laurent.specs.Held.{IsHeld as IsHeldPolynomial};
+ghost use Rattle.sp_fock.specs.Held.{IsHeld};
 
 use sp_fock::Vector;
+use sp_laurent::Term;
+use sp_ranks::Polynomials;
 use std::marker::Model;
 
-/// A vector, with the place of each of its partitions among all of the degree, ascending.
+/// A vector, with the place of each of its partitions among all of the degree, ascending. Its polynomials stand once
+/// more in one list, where to read them in their order is fast.
 #[derive(Drop)]
 pub struct Indexed {
     vector: Vector,
     indices: Vec<u16>,
+    polynomials: Polynomials,
 }
 
 impl Model for Indexed {
     ghost use Rattle.sp_defs.specs.Power.{FockVector};
-    ghost use Rattle.sp_slots.specs.Indexed.{AreIndices};
+    ghost use Rattle.sp_slots.specs.Indexed.{IsIndexed};
 
     ghost Value = { FockVector };
 
     ghost view = { λ a. a.vector };
 
-    ghost invariant = { λ a. AreIndices a.vector a.indices.items };
+    ghost invariant = { λ a. IsIndexed a.vector a.indices.items a.polynomials };
 }
 
 impl Indexed {
-    ghost use Rattle.sp_slots.specs.Indexed.{AreIndices};
+    ghost use Rattle.sp_slots.specs.Indexed.{AreIndices, IsIndexed};
 
-    pub(crate) fn new(vector: Vector, indices: Vec<u16>) -> Indexed
-        requires { AreIndices vector indices.items }
+    pub(crate) fn new(vector: Vector, indices: Vec<u16>, polynomials: Polynomials) -> Indexed
+        requires { IsIndexed vector indices.items polynomials }
         ensures { result ≡ vector }
     {
-        Indexed { vector, indices }
+        Indexed {
+            vector,
+            indices,
+            polynomials,
+        }
     }
 
     /// The vector alone. It takes no memory.
@@ -44,5 +54,22 @@ impl Indexed {
         ensures { AreIndices self.now result.now }
     {
         &self.indices
+    }
+
+    /// How many partitions it has.
+    pub(crate) fn count(&self) -> usize
+        ensures value { result ≡ length self.now.entries }
+        ensures held { IsHeld self.now }
+    {
+        self.vector.pairs().len()
+    }
+
+    /// The terms of the polynomial of the partition that is the k-th in their order.
+    pub(crate) fn terms(&self, k: usize) -> &[Term]
+        requires { k < length self.now.entries }
+        ensures value { result.now ≡ (get_or self.now.entries k ([], [])).1 }
+        ensures held { IsHeldPolynomial result.now }
+    {
+        self.polynomials.terms(k)
     }
 }

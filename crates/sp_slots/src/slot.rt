@@ -56,17 +56,19 @@ impl Slot {
         self.coefficient.terms().is_empty()
     }
 
-    /// Adds `a` times `b`. `size_of_a` is the size of `a`. The total grows by the product of their sizes: past the
-    /// limit it is too large. The total covers the size of the polynomial, so no other check is needed.
+    /// Adds `a` times `b`. `size_of_a` is the size of `a`, and `b` are the terms of a polynomial. The total grows by the
+    /// product of their sizes: past the limit it is too large. The total covers the size of the polynomial, so no other
+    /// check is needed.
     pub(crate) fn add_product(
         &mut self,
         alloc: Global,
         a: &Laurent,
         size_of_a: u128,
-        b: &Laurent,
+        b: &[Term],
         limit: u128,
     ) -> Result<(), FockFault>
         requires slot { IsSlot self.old }
+        requires held { IsHeld b.now }
         requires size { size_of_a ≡ size a.now }
         requires most { limit < 2 ^ 127 }
         requires within { ProductWithin power_limit a.now b.now }
@@ -74,7 +76,7 @@ impl Slot {
         ensures fits { OnOk result (self.old.total + size a.now * size b.now ≤ limit) }
         ensures too_large { IsErrOf result FockFault.TooLarge → limit < self.old.total + size a.now * size b.now }
     {
-        let Some(total) = sum_within(self.total, size_of_a, b.size(), limit) else {
+        let Some(total) = sum_within(self.total, size_of_a, size_of(b), limit) else {
             return Err(FockFault::TooLarge);
         };
         let coefficient = mem::replace(&mut self.coefficient, Laurent::zero(alloc));

@@ -12,7 +12,7 @@ use crate::slot::Slot;
 use sp_fock::{FockFault, Vector};
 use sp_laurent::Laurent;
 use sp_partition::Partition;
-use sp_ranks::RankVector;
+use sp_ranks::{Polynomials, RankVector};
 use std::alloc::{AllocError, Global};
 use std::marker::Model;
 
@@ -110,11 +110,10 @@ impl Slots {
         let _held = a.terms();
         let negated = a.negate(alloc)?;
         let size = negated.size();
-        let pairs = w.vector().pairs();
         let indices = w.indices();
-        for k in 0..pairs.len() {
+        for k in 0..w.count() {
             let index = usize::from(indices[k]);
-            slots[index].add_product(alloc, &negated, size, &pairs[k].1, limit)?;
+            slots[index].add_product(alloc, &negated, size, w.terms(k), limit)?;
         }
         Ok(Slots { degree, slots })
     }
@@ -129,6 +128,7 @@ impl Slots {
         let count = count_nonzero(&slots);
         let mut pairs = Vec::with_capacity(alloc, count)?;
         let mut indices = Vec::with_capacity(alloc, count)?;
+        let mut polynomials = Polynomials::with_capacity(alloc, count, count_terms(&slots))?;
         for index in 0..slots.len() {
             let p = all[index];
             let _held = p.parts();
@@ -137,12 +137,22 @@ impl Slots {
                 // A copy has no room to grow, which the polynomial of a slot may have.
                 pairs.push((p, slot.coefficient.copy(alloc)?))?;
                 indices.push(index as u16)?;
+                polynomials.push(slot.coefficient.terms())?;
             }
         }
-        Ok(Indexed::new(Vector::from_pairs(degree, pairs), indices))
+        Ok(Indexed::new(Vector::from_pairs(degree, pairs), indices, polynomials))
     }
 }
 
 fn count_nonzero(slots: &[Slot]) -> usize {
     slots.iter().filter(|slot| !slot.is_zero()).count()
+}
+
+// How many terms they have in all, as far as `usize` counts.
+fn count_terms(slots: &[Slot]) -> usize {
+    let mut count = 0;
+    for slot in slots {
+        count = slot.coefficient.terms().len().saturating_add(count);
+    }
+    count
 }

@@ -1,5 +1,5 @@
-use Rattle.std.proofs.Common.{◌≡◌, ◌+◌, ◌≤◌, take, sym, ◌∙◌, subst, arith}
-use Rattle.sp_defs.specs.Laurent.{size}
+use Rattle.std.proofs.Common.{◌≡◌, ◌+◌, ◌≤◌, take, sym, ◌∙◌, ap, subst, arith}
+use Rattle.sp_defs.specs.Laurent.{plus, times, size}
 use Rattle.sp_grid_law.specs.Lines.{cells_size, cells_sum}
 use Rattle.sp_inverse.proofs.SumSteps.{step_taken, step_left, sum_none}
 use Rattle.sp_inverse.proofs.sums.sum_within.Goals as goal
@@ -22,7 +22,8 @@ loop-cell-preserved c =
           (sym w.sum-is)
           (step_taken cells factors i c.cell-item.result c.loop-cell-test.true c.cell-item.is c.loop-cell.sum
           c.loop-cell.invariant.0 c.loop-cell.invariant.1 w.index-factors-cell.result w.index-factors-cell.is
-          w.if-cell-factors.true w.in_ok-sum.sum w.in_ok-sum.ensures.ok)
+          w.if-cell-factors.true w.in_ok-sum.sum
+          (w.in_ok-sum.ensures.ok ∙ ap (λ b. plus c.loop-cell.sum (times c.cell-item.result.1 b)) w.terms.ensures.value))
       | else-cell-factors w ↦ subst
           (λ p. (p ≡ cells_sum (take (i + 1) cells) factors) × (size p ≤ cells_size (take (i + 1) cells) factors))
           (sym w.sum-is)

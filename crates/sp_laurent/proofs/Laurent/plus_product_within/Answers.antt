@@ -1,4 +1,4 @@
-use Rattle.std.proofs.Common.{sym, ◌∙◌, ap₂, subst}
+use Rattle.std.proofs.Common.{refl, sym, ◌∙◌, ap₂, subst}
 use Rattle.sp_defs.specs.Laurent.{plus, times}
 use Rattle.sp_defs.specs.Within.{PowersWithin}
 use Rattle.sp_algebra.proofs.Sizes.{within_plus, within_times}
@@ -9,7 +9,7 @@ use Rattle.sp_laurent.proofs.Laurent.plus_product_within.Goals as goal
 pub invariant_of-result : goal.invariant_of-result
 invariant_of-result c =
     let sum = c.in_ok-add_product.ensures ∙ ap₂ plus c.self.view_is
-    (ap₂ times (c.deref.ensures.value ∙ c.a.view_is) (c.deref-2.ensures.value ∙ c.b.view_is)) in
+    (ap₂ times (c.deref.ensures.value ∙ c.a.view_is) refl) in
     subst IsHeld (sym sum)
     (held_sum c.args.self c.args.a.now c.args.b.now (subst IsHeld c.self.view_is c.self.invariant) c.requires.fits
     c.requires.within)
@@ -17,7 +17,7 @@ invariant_of-result c =
 pub returns-clause-powers : goal.returns-clause-powers
 returns-clause-powers c d old product =
     let sum = c.in_ok-add_product.ensures ∙ ap₂ plus c.self.view_is
-    (ap₂ times (c.deref.ensures.value ∙ c.a.view_is) (c.deref-2.ensures.value ∙ c.b.view_is)) in
+    (ap₂ times (c.deref.ensures.value ∙ c.a.view_is) refl) in
     subst (PowersWithin d) (sym sum)
     (within_plus d c.args.self (times c.args.a.now c.args.b.now) old
     (within_times d c.args.a.now c.args.b.now product))
