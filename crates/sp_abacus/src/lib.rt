@@ -13,6 +13,3 @@ pub use beads::beta;
 pub use combining::{CombineFault, combine};
 pub use parts::{core, quotient, shown, weight};
 pub use text::abacus_text;
-
-#[cfg(test)]
-mod tests;

@@ -8,6 +8,3 @@ mod law;
 pub use block::{Block, same_block};
 pub use grouping::blocks;
 pub use law::block_law;
-
-#[cfg(test)]
-mod tests;

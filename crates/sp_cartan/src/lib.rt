@@ -11,6 +11,3 @@ pub use cartan::cartan_matrix;
 pub use characters::simple_character;
 pub use inverses::{INVERTED_POWERS, inverse_matrix};
 pub use squares::square;
-
-#[cfg(test)]
-mod tests;

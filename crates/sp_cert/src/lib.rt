@@ -25,8 +25,3 @@ pub use fault::CertFault;
 pub use law::written_law;
 pub use reader::{Progress, Reader};
 pub use writing::write;
-
-#[cfg(test)]
-mod reading_tests;
-#[cfg(test)]
-mod tests;

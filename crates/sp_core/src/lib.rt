@@ -13,6 +13,3 @@ pub use law::core_law;
 pub use machine::{Answer, Event, NotAllowed, RowState, WorkerState};
 pub use piece::{Key, Piece};
 pub use state::State;
-
-#[cfg(test)]
-mod tests;

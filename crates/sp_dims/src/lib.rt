@@ -9,8 +9,3 @@ mod specht;
 pub use fault::DimsFault;
 pub use simple::simple_dims;
 pub use specht::specht_dim;
-
-#[cfg(test)]
-mod simple_tests;
-#[cfg(test)]
-mod tests;

@@ -21,6 +21,3 @@ pub use row::Row;
 pub use tally::Tally;
 pub use terms::Terms;
 pub use vector::Vector;
-
-#[cfg(test)]
-mod tests;

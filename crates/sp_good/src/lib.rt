@@ -12,6 +12,3 @@ pub use images::{NoPath, mullineux};
 pub use law::{move_law, signature_law};
 pub use paths::path;
 pub use signature::{cogood, good, normal};
-
-#[cfg(test)]
-mod tests;

@@ -16,6 +16,3 @@ pub use law::inverse_law;
 pub use powers::column_past;
 pub use product::multiply;
 pub use transposes::transpose;
-
-#[cfg(test)]
-mod tests;

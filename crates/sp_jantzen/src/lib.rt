@@ -6,6 +6,3 @@ mod sum;
 mod term;
 
 pub use sum::jantzen;
-
-#[cfg(test)]
-mod tests;

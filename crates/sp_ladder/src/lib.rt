@@ -4,8 +4,6 @@
 mod counting;
 mod law;
 mod step;
-#[cfg(test)]
-mod tests;
 mod vector;
 
 pub use counting::ladders;

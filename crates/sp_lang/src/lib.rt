@@ -7,15 +7,9 @@ mod command;
 mod convention;
 mod fault;
 mod given;
-#[cfg(test)]
-mod label_tests;
-#[cfg(test)]
-mod module_tests;
 mod name;
 mod read;
 mod test;
-#[cfg(test)]
-mod tests;
 mod value;
 mod verb;
 mod words;

@@ -345,6 +345,3 @@ impl Laurent {
         printed
     }
 }
-
-#[cfg(test)]
-mod tests;

@@ -25,6 +25,3 @@ pub use fault::AdoptFault;
 pub use law::rows_law;
 pub use refused::{FirstRefused, Refused, RowsFault, first_refused};
 pub use share::Share;
-
-#[cfg(test)]
-mod tests;

@@ -11,6 +11,3 @@ pub use fault::LrFault;
 pub use filling::{Filling, fillings};
 pub use law::filling_law;
 pub use products::product;
-
-#[cfg(test)]
-mod tests;

@@ -17,6 +17,3 @@ mod scope;
 pub use comparison::{Agreement, CompareFault, compare, compare_alone};
 pub use conjugates::{conjugate_grid, conjugate_vector, conjugates_law};
 pub use matrix::{block, crystal, decomposition};
-
-#[cfg(test)]
-mod tests;

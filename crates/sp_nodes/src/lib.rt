@@ -12,6 +12,3 @@ pub use corners::{Corner, Mark, addable, marks, removable};
 pub use diagram::{content, hook, nodes};
 pub use node::{Node, residue};
 pub use texts::{diagram_text, hooks_text};
-
-#[cfg(test)]
-mod tests;

@@ -18,6 +18,3 @@ pub use form::Form;
 pub use kinds::{Gap, Plain, Tex};
 pub use page::{put_page, put_trailer};
 pub use painter::Painter;
-
-#[cfg(test)]
-mod tests;

@@ -24,6 +24,3 @@ pub const DEGREE_LIMIT: u8 = 30;
 
 /// The greatest degree of a `Partition`, and so the greatest number of its parts.
 pub const CAPACITY: u8 = 32;
-
-#[cfg(test)]
-mod tests;

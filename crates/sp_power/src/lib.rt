@@ -8,6 +8,3 @@ mod runs;
 
 pub use fault::PowerFault;
 pub use power::induce;
-
-#[cfg(test)]
-mod tests;

@@ -18,6 +18,3 @@ pub use ladder::ladder_vector;
 pub use moves::Moves;
 pub use polynomials::Polynomials;
 pub use vector::RankVector;
-
-#[cfg(test)]
-mod tests;

@@ -4,26 +4,16 @@
 
 mod abacuses;
 mod blocks;
-#[cfg(test)]
-mod blocks_tests;
 mod diagrams;
 mod faults;
-#[cfg(test)]
-mod label_tests;
 mod labels;
 mod modules;
 mod orders;
-#[cfg(test)]
-mod product_tests;
 mod products;
 mod refusals;
-#[cfg(test)]
-mod restriction_tests;
 mod restrictions;
 mod rows;
 mod signatures;
-#[cfg(test)]
-mod tests;
 mod vectors;
 mod words;
 

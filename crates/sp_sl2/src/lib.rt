@@ -11,6 +11,3 @@ mod targets;
 pub use law::{commutator_law, divided_power_law, restriction_law};
 pub use relation::commutator;
 pub use restriction::restrict;
-
-#[cfg(test)]
-mod tests;

@@ -1,5 +1,0 @@
-use Rattle.sp_llt.specs.Filled.{HasFirst}
-use Rattle.sp_matrix.proofs.tests.entries.Given as goal
-
-abbrev pub invariant-loop-k : goal.invariant-loop-k
-invariant-loop-k l = HasFirst l.ctx l.k l.rows.items

@@ -1,5 +1,0 @@
-use Rattle.std.proofs.Common.{◌≡◌, vec_len}
-use Rattle.sp_paint.proofs.tests.row.Given as goal
-
-abbrev pub invariant-loop-coefficient : goal.invariant-loop-coefficient
-invariant-loop-coefficient l = vec_len l.cells ≡ l.coefficient-index

@@ -1,0 +1,5 @@
+use Rattle.sp_llt.specs.Filled.{HasFirst}
+use Rattle.sp_row_tests.proofs.certificates.rows_of.Given as goal
+
+abbrev pub invariant-loop-k : goal.invariant-loop-k
+invariant-loop-k l = HasFirst l.ctx l.k l.rows.items
