@@ -9,7 +9,7 @@ use Rattle.sp_defs.specs.Partition.{part}
 use Rattle.sp_defs.specs.Signature.{Addable, Removable, Mark as Marked}
 use Rattle.sp_lists.proofs.FlatMaps.{appended_step}
 use Rattle.sp_nodes.specs.declared.corners.Mark.{Mark}
-use Rattle.sp_ranks.specs.Corners.{corners, row_corners, mark_at, AreCorners, HasResidue}
+use Rattle.sp_ranks.specs.Corners.{row_corners, mark_at, AreCorners, HasResidue}
 use Rattle.sp_ranks.specs.declared.corners.CornerNode.{CornerNode}
 
 -- The corners of the rows before one.

@@ -7,11 +7,10 @@ use Rattle.std.proofs.lemmas.List.{length-map}
 use Rattle.std.proofs.lemmas.List.Concat.{flat_map-cons}
 use Rattle.sp_defs.specs.Node.{residue}
 use Rattle.sp_defs.specs.Partition.{partitions, from_one_to}
-use Rattle.sp_defs.specs.Signature.{Mark as Marked, signature, row_marks}
+use Rattle.sp_defs.specs.Signature.{signature}
 use Rattle.sp_lists.proofs.Elements.{filter_alike, filter_append}
 use Rattle.sp_lists.proofs.Maps.{filter-map}
 use Rattle.sp_lists.proofs.Places.{all_weaken}
-use Rattle.sp_nodes.specs.declared.corners.Mark.{Mark}
 use Rattle.sp_nodes.specs.Marks.{mark_of}
 use Rattle.sp_power_law.proofs.Bounds.{length-signature}
 use Rattle.sp_ranks.specs.Corners.{corners, row_corners, mark_at, AreCorners, HasResidue}

@@ -18,8 +18,8 @@ use std::alloc::{AllocError, Global};
 #[derive(Clone, Copy, Debug)]
 pub(crate) struct Arrival {
     pub(crate) rank: u16,
-    pub(crate) source: u32,
     pub(crate) exponent: i16,
+    pub(crate) source: u32,
 }
 
 // A move on its way down a signature.
@@ -89,34 +89,49 @@ fn push_moves(
     ensures there { OnOk result (AreThere (n + left) found.old.items → AreThere (n + left) found.new.items) }
 {
     if left == 0 {
-        found.push(Arrival {
-            rank: way.rank,
-            source,
-            exponent: way.exponent,
-        })?;
+        found.push(way.arrival(source))?;
         return Ok(());
     }
-    let [first, below @ ..] = marks else {
-        return Ok(());
-    };
-    if marks.len() < usize::from(left) {
-        return Ok(());
-    }
-    match first.corner {
-        Corner::Addable => {
-            let chosen = Way {
-                rank: moves.grown(n, way.rank, first.node.row),
-                difference: way.difference,
-                exponent: way.exponent + way.difference,
-            };
-            push_moves(found, moves, n + 1, source, below, left - 1, chosen)?;
-            push_moves(found, moves, n, source, below, left, way.passed(1))
+    let mut rest = marks;
+    let mut at = way;
+    while let [first, below @ ..] = rest {
+        if rest.len() < usize::from(left) {
+            return Ok(());
         }
-        Corner::Removable => push_moves(found, moves, n, source, below, left, way.passed(-1)),
+        match first.corner {
+            Corner::Addable => {
+                let chosen = Way {
+                    rank: moves.grown(n, at.rank, first.node.row),
+                    difference: at.difference,
+                    exponent: at.exponent + at.difference,
+                };
+                // the last node by itself, since nearly all calls would be for one
+                if left == 1 {
+                    found.push(chosen.arrival(source))?;
+                } else {
+                    push_moves(found, moves, n + 1, source, below, left - 1, chosen)?;
+                }
+                at = at.passed(1);
+            }
+            Corner::Removable => at = at.passed(-1),
+        }
+        rest = below;
     }
+    Ok(())
 }
 
 impl Way {
+    // The move that has come to its end.
+    fn arrival(self, source: u32) -> Arrival
+        ensures { result ≡ record { rank = self.rank; exponent = self.exponent; source = source } }
+    {
+        Arrival {
+            rank: self.rank,
+            exponent: self.exponent,
+            source,
+        }
+    }
+
     // A node is passed, which counts so much.
     fn passed(self, step: i16) -> Way
         requires near { unsigned_abs self.difference ≤ 33 }
